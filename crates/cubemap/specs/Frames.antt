@@ -1,0 +1,131 @@
+-- The paper, "Frames": samples, layouts, the index of a place and the place at an index.
+use mathlib.Core.Bool.{Bool}
+use mathlib.Core.List.{List, [], _∷_, _++_}
+use Prim.Native.Nat.{ℕ, zero, suc, _+_, _*_, _-_, _/_, _%_, _^_, _<_}
+use lib.Dec.{ltb, eqb}
+use lib.ListN.{getD}
+use Rattle.arithmetic.specs.Searches.{lowest}
+use Rattle.cubemap.specs.declared.Place.{Place}
+use Rattle.cubemap.specs.declared.Shape.{Shape}
+
+-- "A frame travels as one thing: its bytes with face size, depth, format and layout beside them."
+pub record Frame : Type 0 where
+  pub shape : Shape
+  pub layout : List ℕ
+  pub bytes : List ℕ
+
+abbrev pub shapeOf : ℕ → ℕ → ℕ → Shape
+shapeOf A D format = record { size = A; depth = D; format = format }
+
+abbrev pub place : ℕ → ℕ → ℕ → Place
+place f m n = record { face = f; column = m; row = n }
+
+-- "A place is (f, m, n), with face f 0 to 5, column m and row n 0 to A−1"
+pub record IsPlace (A : ℕ) (P : Place) : Type 0 where
+  pub face-ok : P .face < 6
+  pub column-ok : P .column < A
+  pub row-ok : P .row < A
+
+-- ---- samples
+
+-- "A sample is .. two bytes, little-endian": the sample at index i
+abbrev pub sampleAt : List ℕ → ℕ → ℕ
+sampleAt bytes i = getD bytes (2 * i) 0 + 256 * getD bytes (2 * i + 1) 0
+
+-- "A sample is 0 to 2^D − 1"
+abbrev pub withinDepth : ℕ → ℕ → Bool
+withinDepth D v = ltb v (2 ^ D)
+
+-- the bytes of n samples, f i at index i
+unfoldable pub framed : (ℕ → ℕ) → ℕ → List ℕ
+framed f zero = []
+framed f (suc n) = framed f n ++ (f n % 256 ∷ f n / 256 ∷ [])
+
+-- "A frame is 3A columns by 2A rows": its samples
+abbrev pub planeSamples : ℕ → ℕ
+planeSamples A = 2 * A * (3 * A)
+
+-- "One plane of samples per frame"
+unfoldable pub samplesIn : Shape → ℕ
+samplesIn z = planeSamples (z .size)
+
+-- "12·A² bytes"
+unfoldable pub bytesIn : Shape → ℕ
+bytesIn z = 12 * z .size * z .size
+
+-- ---- layouts: "12 bytes, the six faces and then the six turns"
+
+-- "A layout names for each slot a face and a count of clockwise quarter turns"
+abbrev pub faceIn : List ℕ → ℕ → ℕ
+faceIn L slot = getD L slot 0
+
+abbrev pub quarterTurnsIn : List ℕ → ℕ → ℕ
+quarterTurnsIn L slot = getD L (6 + slot) 0
+
+-- the slot that holds the face f
+unfoldable pub slotOf : List ℕ → ℕ → ℕ
+slotOf L f = lowest (λ slot. eqb (faceIn L slot) f) 6
+
+-- "The usual layout has faces 4, 0, 5, 3, 1, 2 with turns 0, 0, 0, 1, 1, 1."
+abbrev pub usualLayout : List ℕ
+usualLayout = 4 ∷ 0 ∷ 5 ∷ 3 ∷ 1 ∷ 2 ∷ 0 ∷ 0 ∷ 0 ∷ 1 ∷ 1 ∷ 1 ∷ []
+
+-- ---- quarter turns
+
+-- a column and a row, of a face or of a slot
+pub record Spot : Type 0 where
+  pub column : ℕ
+  pub row : ℕ
+
+abbrev pub spot : ℕ → ℕ → Spot
+spot m n = record { column = m; row = n }
+
+-- "One quarter turn puts face sample (column m, row n) at column A−1−n, row m of its slot."
+abbrev pub quarterTurn : ℕ → Spot → Spot
+quarterTurn A s = spot (A - 1 - s .row) (s .column)
+
+-- k quarter turns
+unfoldable pub quarterTurns : ℕ → ℕ → Spot → Spot
+quarterTurns A zero s = s
+quarterTurns A (suc k) s = quarterTurn A (quarterTurns A k s)
+
+-- the spot that a quarter turn, and that k of them, put at s
+abbrev pub quarterTurnBack : ℕ → Spot → Spot
+quarterTurnBack A s = spot (s .row) (A - 1 - s .column)
+
+unfoldable pub quarterTurnsBack : ℕ → ℕ → Spot → Spot
+quarterTurnsBack A zero s = s
+quarterTurnsBack A (suc k) s = quarterTurnsBack A k (quarterTurnBack A s)
+
+-- ---- indices: "Slots 0 to 5 run left to right, top row first"; "a sample's index is row × 3A + column"
+
+-- the index of a spot of a slot
+unfoldable pub indexInSlot : ℕ → ℕ → Spot → ℕ
+indexInSlot A slot s = (slot / 3 * A + s .row) * (3 * A) + (slot % 3 * A + s .column)
+
+-- the index at which the layout L puts the place P
+unfoldable pub index : ℕ → List ℕ → Place → ℕ
+index A L P =
+    let slot = slotOf L (P .face) in
+    indexInSlot A slot (quarterTurns A (quarterTurnsIn L slot) (spot (P .column) (P .row)))
+
+-- the slot at an index, and the spot of that slot: row i / 3A and column i % 3A of the frame
+unfoldable pub slotAt : ℕ → ℕ → ℕ
+slotAt A i = i / (3 * A) / A * 3 + i % (3 * A) / A
+
+unfoldable pub spotAt : ℕ → ℕ → Spot
+spotAt A i = spot (i % (3 * A) % A) (i / (3 * A) % A)
+
+-- the place that the layout L has at the index i
+unfoldable pub placeAt : ℕ → List ℕ → ℕ → Place
+placeAt A L i =
+    let slot = slotAt A i in
+    let s = quarterTurnsBack A (quarterTurnsIn L slot) (spotAt A i) in
+    place (faceIn L slot) (s .column) (s .row)
+
+-- the sample that a plane of bytes has at a place, and that a frame has there
+abbrev pub sampleOn : List ℕ → ℕ → List ℕ → Place → ℕ
+sampleOn bytes A L P = sampleAt bytes (index A L P)
+
+abbrev pub sampleOf : Frame → Place → ℕ
+sampleOf F P = sampleOn (F .bytes) (F .shape .size) (F .layout) P

@@ -1,0 +1,13 @@
+pub mod Interface
+pub mod Frames
+pub mod PlaceToRay
+pub mod Rotations
+pub mod RayToPlace
+pub mod Samplers
+pub mod Score
+pub mod Checks
+pub mod Outcomes
+pub mod Promises
+pub mod Listing
+pub mod Marked
+pub mod Examples
