@@ -2,6 +2,7 @@
 .PHONY: all test clean
 
 all:
+	@command -v rt >/dev/null || { echo "make: the Rattle toolchain (its command rt) is not on the PATH"; exit 1; }
 	@mkdir -p build
 	@echo "Proving the crates (some seconds each) .."
 	@rt check >build/check.log 2>&1 || { cat build/check.log; exit 1; }

@@ -4,7 +4,7 @@ use Prim.Native.Nat.{ℕ, zero, suc, _/_}
 use lib.Dec.{eqb}
 use lib.IntN.{ℤ, pos, negsuc, negℤ}
 
--- the whole number below or at z / d: −(a + 1) / d lies below zero, and −(a / d + 1) is the whole number below or at it
+-- the largest whole number that is not above z / d, for d above 0: of −(a + 1) / d it is −(a / d + 1)
 abbrev pub floorDiv : ℤ → ℕ → ℤ
 floorDiv (pos a) d = pos (a / d)
 floorDiv (negsuc a) d = negsuc (a / d)

@@ -9,14 +9,14 @@ use Rattle.cubemap.specs.declared.Format.{Format}
 use Rattle.cubemap.specs.Interface.{putAt, putAll}
 use Rattle.cubemap.specs.Frames.{framed, samplesIn, bytesIn, slotOf, quarterTurns, indexInSlot, index}
 use Rattle.cubemap.specs.PlaceToRay.{curve, table3, rayOf}
-use Rattle.cubemap.specs.Rotations.{rotated, product, commonDivisor, divided, signed, compose}
+use Rattle.cubemap.specs.Rotations.{rotated, product, commonDivisor, divided, signNormalized, compose}
 use Rattle.cubemap.specs.RayToPlace.{faceOf, chosenSize, across, down, adjusted, position64, locate}
 use Rattle.cubemap.specs.Samplers.{nearestColumn, nearestPlace, tapWeight, sampleFrom}
 use Rattle.cubemap.specs.Score.{weightOf, weight, squaredDifference, overPlaces, errorSum, weightSum}
-use Rattle.cubemap.specs.Checks.{firstFailed, sizeOK, depthOK, codeOK, layoutOK, rotationSmall, rotationSome}
-use Rattle.cubemap.specs.Checks.{lengthOK, samplesOK, lowestBeyond, raySmall, raySome}
+use Rattle.cubemap.specs.Checks.{firstFailed, sizeOK, depthOK, codeOK, layoutOK, rotationInRange, rotationNonzero}
+use Rattle.cubemap.specs.Checks.{lengthOK, samplesOK, lowestBeyond, rayInRange, rayNonzero}
 use Rattle.cubemap.specs.Checks.{scoreChecks, equalChecks, foldChecks, lookUpChecks}
-use Rattle.cubemap.specs.Outcomes.{scoreResult, foldResult, lookUpResult, sourceRay, sourcePosition, convertedSample}
+use Rattle.cubemap.specs.Outcomes.{scoreResult, foldResult, lookUpResult, sourcePosition, valueAt, convertedSample}
 use Rattle.cubemap.specs.Marked.{Marked}
 
 -- p and q of all four places of a face of size 2 have size 1
@@ -37,13 +37,13 @@ weights-2 (suc (suc m)) n h k = absurd (omega arith)
 pub marked : Marked
 unfolding largest lowestFrom allBelow sumBelow
     putAt putAll framed samplesIn bytesIn slotOf quarterTurns indexInSlot index
-    curve table3 rayOf rotated product commonDivisor divided signed compose
+    curve table3 rayOf rotated product commonDivisor divided signNormalized compose
     faceOf chosenSize across down adjusted position64 locate
     nearestColumn nearestPlace tapWeight sampleFrom
     weightOf weight squaredDifference overPlaces errorSum weightSum
-    firstFailed sizeOK depthOK codeOK layoutOK rotationSmall rotationSome lengthOK samplesOK lowestBeyond raySmall raySome
+    firstFailed sizeOK depthOK codeOK layoutOK rotationInRange rotationNonzero lengthOK samplesOK lowestBeyond rayInRange rayNonzero
     scoreChecks equalChecks foldChecks lookUpChecks
-    scoreResult foldResult lookUpResult sourceRay sourcePosition convertedSample
+    scoreResult foldResult lookUpResult sourcePosition valueAt convertedSample
 marked = record {
   P1 = refl;
   P2 = refl;

@@ -11,7 +11,7 @@ use Rattle.cubemap.specs.declared.Ray.{Ray}
 use Rattle.cubemap.specs.declared.Rotation.{Rotation}
 use Rattle.cubemap.specs.declared.Shape.{Shape}
 use Rattle.cubemap.specs.Interface.{Answer, answer, accepted}
-use Rattle.cubemap.specs.Frames.{shapeOf, sampleAt, withinDepth, samplesIn, bytesIn, faceIn, quarterTurnsIn}
+use Rattle.cubemap.specs.Frames.{sampleAt, withinDepth, samplesIn, bytesIn, faceIn, quarterTurnsIn}
 use Rattle.cubemap.specs.Rotations.{compose}
 
 -- ---- what a call names
@@ -27,7 +27,7 @@ pub record ConvertSettings : Type 0 where
   pub rotation : Rotation
 
 unfoldable pub targetShape : ConvertSettings → Shape
-targetShape s = shapeOf (s .targetSize) (s .sourceShape .depth) (s .targetFormat)
+targetShape s = record { size = s .targetSize; depth = s .sourceShape .depth; format = s .targetFormat }
 
 -- score: "Each frame has its own layout; size, depth and format are common."
 pub record ScoreSettings : Type 0 where
@@ -76,12 +76,12 @@ layoutOK L =
     && allBelow (λ slot. leb (quarterTurnsIn L slot) 3) 6
 
 -- 6, 12: "−31 to 31"
-unfoldable pub rotationSmall : Rotation → Bool
-rotationSmall t = leb (natAbs (t .e0)) 31 && leb (natAbs (t .e1)) 31 && leb (natAbs (t .e2)) 31 && leb (natAbs (t .e3)) 31
+unfoldable pub rotationInRange : Rotation → Bool
+rotationInRange t = leb (natAbs (t .e0)) 31 && leb (natAbs (t .e1)) 31 && leb (natAbs (t .e2)) 31 && leb (natAbs (t .e3)) 31
 
 -- 7: "a nonzero number"
-unfoldable pub rotationSome : Rotation → Bool
-rotationSome t =
+unfoldable pub rotationNonzero : Rotation → Bool
+rotationNonzero t =
     not (eqb (natAbs (t .e0)) 0 && eqb (natAbs (t .e1)) 0 && eqb (natAbs (t .e2)) 0 && eqb (natAbs (t .e3)) 0)
 
 -- 8, 9: "exactly the frame's bytes"
@@ -89,44 +89,56 @@ unfoldable pub lengthOK : Shape → ℕ → Bool
 lengthOK z n = eqb n (bytesIn z)
 
 -- 10, 11: "every sample .. within the depth"
+abbrev pub sampleOK : Shape → List ℕ → ℕ → Bool
+sampleOK z bytes i = withinDepth (z .depth) (sampleAt bytes i)
+
 unfoldable pub samplesOK : Shape → List ℕ → Bool
-samplesOK z bytes = allBelow (λ i. withinDepth (z .depth) (sampleAt bytes i)) (samplesIn z)
+samplesOK z bytes = allBelow (sampleOK z bytes) (samplesIn z)
 
 -- "the lowest offending index"
 unfoldable pub lowestBeyond : Shape → List ℕ → ℕ
-lowestBeyond z bytes = lowest (λ i. not (withinDepth (z .depth) (sampleAt bytes i))) (samplesIn z)
+lowestBeyond z bytes = lowest (λ i. not (sampleOK z bytes i)) (samplesIn z)
 
 abbrev pub samplesCheck : ℕ → Shape → List ℕ → Check
 samplesCheck n z bytes = record { holds = samplesOK z bytes; number = n; index = lowestBeyond z bytes }
 
 -- 13: "−536,870,911 to 536,870,911"
-unfoldable pub raySmall : Ray → Bool
-raySmall v = leb (natAbs (v .x)) 536870911 && leb (natAbs (v .y)) 536870911 && leb (natAbs (v .z)) 536870911
+unfoldable pub rayInRange : Ray → Bool
+rayInRange v = leb (natAbs (v .x)) 536870911 && leb (natAbs (v .y)) 536870911 && leb (natAbs (v .z)) 536870911
 
 -- 14: "one of them nonzero"
-unfoldable pub raySome : Ray → Bool
-raySome v = not (eqb (natAbs (v .x)) 0 && eqb (natAbs (v .y)) 0 && eqb (natAbs (v .z)) 0)
+unfoldable pub rayNonzero : Ray → Bool
+rayNonzero v = not (eqb (natAbs (v .x)) 0 && eqb (natAbs (v .y)) 0 && eqb (natAbs (v .z)) 0)
 
 -- ---- the checks of each call, in order. (15 and 16 are the listing program's: Listing.)
 
--- "Convert puts 1 to 10 (both ends share the depth; its second buffer is the target)": 1 to 9, which need no sample
-unfoldable pub convertChecksEarly : ConvertSettings → ℕ → ℕ → List Check
-convertChecksEarly s sourceLength targetLength =
-    check 1 (sizeOK (s .sourceShape .size))
-    ∷ check 2 (sizeOK (s .targetSize))
-    ∷ check 3 (depthOK (s .sourceShape .depth))
+-- "Convert puts 1 to 10 (both ends share the depth; its second buffer is the target)": the settings, the two buffers' lengths, the source's bytes.
+-- 1 and 2
+unfoldable pub sizeChecks : ConvertSettings → List Check
+sizeChecks s = check 1 (sizeOK (s .sourceShape .size)) ∷ check 2 (sizeOK (s .targetSize)) ∷ []
+
+-- 3 to 7
+unfoldable pub settingChecks : ConvertSettings → List Check
+settingChecks s =
+    check 3 (depthOK (s .sourceShape .depth))
     ∷ check 4 (codeOK (s .sourceShape .format) && codeOK (s .targetFormat) && codeOK (s .sampler))
     ∷ check 5 (layoutOK (s .sourceLayout) && layoutOK (s .targetLayout))
-    ∷ check 6 (rotationSmall (s .rotation))
-    ∷ check 7 (rotationSome (s .rotation))
-    ∷ check 8 (lengthOK (s .sourceShape) sourceLength)
-    ∷ check 9 (lengthOK (targetShape s) targetLength)
+    ∷ check 6 (rotationInRange (s .rotation))
+    ∷ check 7 (rotationNonzero (s .rotation))
     ∷ []
 
--- and 10: the settings, the two buffers' lengths, the source's bytes
+-- 8 and 9
+unfoldable pub lengthChecks : ConvertSettings → ℕ → ℕ → List Check
+lengthChecks s sourceLength targetLength =
+    check 8 (lengthOK (s .sourceShape) sourceLength) ∷ check 9 (lengthOK (targetShape s) targetLength) ∷ []
+
+-- 1 to 9, which look at no sample, and then 10
+unfoldable pub beforeSamples : ConvertSettings → ℕ → ℕ → List Check
+beforeSamples s sourceLength targetLength = sizeChecks s ++ settingChecks s ++ lengthChecks s sourceLength targetLength
+
 unfoldable pub convertChecks : ConvertSettings → ℕ → ℕ → List ℕ → List Check
 convertChecks s sourceLength targetLength source =
-    convertChecksEarly s sourceLength targetLength ++ (samplesCheck 10 (s .sourceShape) source ∷ [])
+    beforeSamples s sourceLength targetLength ++ (samplesCheck 10 (s .sourceShape) source ∷ [])
 
 -- "Score puts 1, 3, 4, 5, 8 to 11."
 unfoldable pub scoreChecks : ScoreSettings → List ℕ → List ℕ → List Check
@@ -143,12 +155,12 @@ scoreChecks s first second =
 
 -- "Fold puts 6, 7, 12; equality 6, 7."
 unfoldable pub equalChecks : Rotation → Rotation → List Check
-equalChecks a b = check 6 (rotationSmall a && rotationSmall b) ∷ check 7 (rotationSome a && rotationSome b) ∷ []
+equalChecks a b = check 6 (rotationInRange a && rotationInRange b) ∷ check 7 (rotationNonzero a && rotationNonzero b) ∷ []
 
 unfoldable pub foldChecks : Rotation → Rotation → List Check
-foldChecks first later = equalChecks first later ++ (check 12 (rotationSmall (compose first later)) ∷ [])
+foldChecks first later = equalChecks first later ++ (check 12 (rotationInRange (compose first later)) ∷ [])
 
 -- "Look-up puts 1, 4, 13, 14."
 unfoldable pub lookUpChecks : ℕ → ℕ → Ray → List Check
 lookUpChecks A format v =
-    check 1 (sizeOK A) ∷ check 4 (codeOK format) ∷ check 13 (raySmall v) ∷ check 14 (raySome v) ∷ []
+    check 1 (sizeOK A) ∷ check 4 (codeOK format) ∷ check 13 (rayInRange v) ∷ check 14 (rayNonzero v) ∷ []

@@ -1,20 +1,24 @@
 -- The paper's worked examples outside its table, and cases that settle what the table leaves open: halves, the sign of a fold,
--- short answer buffers, the lowest offending index, records that are not whole.
+-- short answer buffers, the lowest offending index, records that are not whole; and two whole conversions, with the values that a program written
+-- from the paper alone gave for them.
 use mathlib.Core.Path.{_≡_}
 use mathlib.Core.Bool.{cond}
 use mathlib.Core.List.{List, [], _∷_, _++_}
-use Prim.Native.Nat.{ℕ, _^_}
+use Prim.Native.Nat.{ℕ, _*_, _%_, _^_}
 use lib.Dec.{leb}
-use lib.ListN.{replicate}
+use lib.ListN.{getD, replicate}
 use lib.IntN.{ℤ, pos}
+use Rattle.cubemap.specs.declared.Rotation.{Rotation}
+use Rattle.cubemap.specs.declared.Shape.{Shape}
 use Rattle.cubemap.specs.Interface.{accepted, answer, returnCode, littleEndian, twosComplement}
-use Rattle.cubemap.specs.Frames.{framed}
+use Rattle.cubemap.specs.Frames.{shapeOf, framed, bytesIn, usualLayout}
 use Rattle.cubemap.specs.PlaceToRay.{ray}
 use Rattle.cubemap.specs.Rotations.{rotation}
 use Rattle.cubemap.specs.Samplers.{base, phase, rounded}
-use Rattle.cubemap.specs.Outcomes.{result, outcome, lookUpResult, foldResult, foldOutcome, equalResult, scoreOutcome}
+use Rattle.cubemap.specs.Checks.{ConvertSettings}
+use Rattle.cubemap.specs.Outcomes.{result, outcome, lookUpResult, foldResult, foldOutcome, equalResult, scoreOutcome, convertOutcome}
 use Rattle.cubemap.specs.Listing.{text, listing}
-use Rattle.cubemap.specs.Marked.{cmp, acp, minus, turn, scored, flat}
+use Rattle.cubemap.specs.Marked.{cmp, acp, minus, rotationℕ, sizeOne, flat}
 
 -- a record of kind 1, and one of kind 7 with an empty body
 abbrev rayRecord : ℕ → ℕ → ℤ → ℤ → ℤ → List ℕ
@@ -25,7 +29,46 @@ rayRecord format A x y z =
 abbrev emptyRecord : List ℕ
 emptyRecord = littleEndian 4 0 ++ littleEndian 2 7
 
+-- faces 0 to 5, some of them turned
+abbrev pub otherLayout : List ℕ
+otherLayout = 0 ∷ 1 ∷ 2 ∷ 3 ∷ 4 ∷ 5 ∷ 3 ∷ 2 ∷ 1 ∷ 0 ∷ 1 ∷ 2 ∷ []
+
+-- size 2, depth 8, from the usual layout into the other one, to CMP: format of the source, sampler, the turn's four numbers
+abbrev between2 : ℕ → ℕ → Rotation → ConvertSettings
+between2 format sampler t = record {
+  sourceShape = shapeOf 2 8 format;
+  targetSize = 2;
+  targetFormat = cmp;
+  sampler = sampler;
+  sourceLayout = usualLayout;
+  targetLayout = otherLayout;
+  rotation = t;
+}
+
+-- the frame of size 2 with these samples
+abbrev framed2 : List ℕ → List ℕ
+framed2 vs = framed (λ i. getD vs i 0) 24
+
+abbrev source2 : List ℕ
+source2 = framed (λ i. i * i * 7 % 256) 24
+
 pub record Examples : Type 0 where
+  -- "12·A² bytes"
+  pub frame-bytes : (z : Shape) → bytesIn z ≡ 12 * z .size * z .size
+  -- the turn (3,1,2,0) at nearest, and from ACP at cubic
+  pub converted-nearest :
+      convertOutcome (between2 cmp 0 (rotationℕ 3 1 2 0)) source2 (replicate 48 7)
+      ≡ outcome accepted (framed2 (
+      119 ∷ 175 ∷ 159 ∷ 240 ∷ 7 ∷ 0 ∷ 63 ∷ 188 ∷ 87 ∷ 0 ∷ 28 ∷ 119
+      ∷ 159 ∷ 220 ∷ 223 ∷ 87 ∷ 92 ∷ 175 ∷ 92 ∷ 79 ∷ 55 ∷ 28 ∷ 15 ∷ 231 ∷ []))
+  pub converted-cubic :
+      convertOutcome (between2 acp 1 (rotationℕ 3 1 2 0)) source2 (replicate 48 7)
+      ≡ outcome accepted (framed2 (
+      155 ∷ 138 ∷ 171 ∷ 255 ∷ 4 ∷ 0 ∷ 65 ∷ 195 ∷ 84 ∷ 4 ∷ 28 ∷ 125
+      ∷ 199 ∷ 220 ∷ 226 ∷ 58 ∷ 114 ∷ 152 ∷ 137 ∷ 71 ∷ 57 ∷ 71 ∷ 0 ∷ 244 ∷ []))
+  -- a sampler code of 2 and no nonzero number: the earlier question's number, and the target stays
+  pub convert-refused :
+      (source target : List ℕ) → convertOutcome (between2 cmp 2 (rotationℕ 0 0 0 0)) source target ≡ outcome (answer 4 0) target
   -- "Division below zero rounds down: T = −32 has base −1 and phase 32."
   pub left-rim : (base (minus 32) ≡ minus 1) × (phase (minus 32) ≡ pos 32)
   -- T = 1/2 and T = −1/2, "halves upward": column 1, row 0
@@ -33,23 +76,23 @@ pub record Examples : Type 0 where
   -- the cubic values 1/2 and −1/2, "halves upward"
   pub cubic-halves : (rounded (pos (2 ^ 37)) ≡ pos 1) × (rounded (minus (2 ^ 37)) ≡ pos 0)
   -- (0,1,0,0) twice is (−1,0,0,0): "if its first nonzero number is negative, all four change sign"
-  pub sign : foldResult (turn 0 1 0 0) (turn 0 1 0 0) ≡ result accepted (pos 1 ∷ pos 0 ∷ pos 0 ∷ pos 0 ∷ [])
+  pub sign : foldResult (rotationℕ 0 1 0 0) (rotationℕ 0 1 0 0) ≡ result accepted (pos 1 ∷ pos 0 ∷ pos 0 ∷ pos 0 ∷ [])
   -- (31,1,0,0) and (31,−1,0,0) have the product (962,0,0,0): question 12 is asked of the folded turn, once divided
   pub lowest-terms :
-      foldResult (turn 31 1 0 0) (rotation (pos 31) (minus 1) (pos 0) (pos 0))
+      foldResult (rotationℕ 31 1 0 0) (rotation (pos 31) (minus 1) (pos 0) (pos 0))
       ≡ result accepted (pos 1 ∷ pos 0 ∷ pos 0 ∷ pos 0 ∷ [])
   -- turns that differ by sign, or by a factor, are equal
-  pub equal-by-sign : equalResult (turn 1 0 1 0) (rotation (minus 1) (pos 0) (minus 1) (pos 0)) ≡ result accepted (pos 1 ∷ [])
-  pub equal-by-factor : equalResult (turn 1 0 1 0) (turn 31 0 31 0) ≡ result accepted (pos 1 ∷ [])
-  pub not-equal : equalResult (turn 1 0 1 0) (turn 1 1 0 0) ≡ result accepted (pos 0 ∷ [])
+  pub equal-by-sign : equalResult (rotationℕ 1 0 1 0) (rotation (minus 1) (pos 0) (minus 1) (pos 0)) ≡ result accepted (pos 1 ∷ [])
+  pub equal-by-factor : equalResult (rotationℕ 1 0 1 0) (rotationℕ 31 0 31 0) ≡ result accepted (pos 1 ∷ [])
+  pub not-equal : equalResult (rotationℕ 1 0 1 0) (rotationℕ 1 1 0 0) ≡ result accepted (pos 0 ∷ [])
   -- "A number that does not fit whole is not written, and every other byte stays": 20 bytes take two of fold's four numbers
   pub short-answer :
-      foldOutcome (turn 1 1 0 0) (turn 1 0 1 0) (replicate 20 9)
+      foldOutcome (rotationℕ 1 1 0 0) (rotationℕ 1 0 1 0) (replicate 20 9)
       ≡ outcome accepted (littleEndian 8 1 ++ littleEndian 8 1 ++ replicate 4 9)
   -- samples 3 to 5 of the first frame are beyond the depth, 8: "the lowest offending index comes with it"
   pub lowest-index :
       (buffer : List ℕ)
-      → scoreOutcome scored (framed (λ i. cond (leb 3 i) 256 255) 6) (flat 12) buffer ≡ outcome (answer 10 3) buffer
+      → scoreOutcome sizeOne (framed (λ i. cond (leb 3 i) 256 255) 6) (flat 12) buffer ≡ outcome (answer 10 3) buffer
   -- "its number plus 256 × the index"
   pub returned : returnCode (answer 10 3) ≡ 778
   -- the paper's four records and five lines

@@ -7,6 +7,7 @@ use lib.ListN.{getD}
 use Rattle.arithmetic.specs.Searches.{lowest}
 use Rattle.cubemap.specs.declared.Place.{Place}
 use Rattle.cubemap.specs.declared.Shape.{Shape}
+use Rattle.cubemap.specs.Interface.{littleEndian}
 
 -- "A frame travels as one thing: its bytes with face size, depth, format and layout beside them."
 pub record Frame : Type 0 where
@@ -39,7 +40,7 @@ withinDepth D v = ltb v (2 ^ D)
 -- the bytes of n samples, f i at index i
 unfoldable pub framed : (ℕ → ℕ) → ℕ → List ℕ
 framed f zero = []
-framed f (suc n) = framed f n ++ (f n % 256 ∷ f n / 256 ∷ [])
+framed f (suc n) = framed f n ++ littleEndian 2 (f n)
 
 -- "A frame is 3A columns by 2A rows": its samples
 abbrev pub planeSamples : ℕ → ℕ
@@ -49,9 +50,9 @@ planeSamples A = 2 * A * (3 * A)
 unfoldable pub samplesIn : Shape → ℕ
 samplesIn z = planeSamples (z .size)
 
--- "12·A² bytes"
+-- two bytes a sample: "12·A² bytes"
 unfoldable pub bytesIn : Shape → ℕ
-bytesIn z = 12 * z .size * z .size
+bytesIn z = 2 * samplesIn z
 
 -- ---- layouts: "12 bytes, the six faces and then the six turns"
 
@@ -89,14 +90,6 @@ unfoldable pub quarterTurns : ℕ → ℕ → Spot → Spot
 quarterTurns A zero s = s
 quarterTurns A (suc k) s = quarterTurn A (quarterTurns A k s)
 
--- the spot that a quarter turn, and that k of them, put at s
-abbrev pub quarterTurnBack : ℕ → Spot → Spot
-quarterTurnBack A s = spot (s .row) (A - 1 - s .column)
-
-unfoldable pub quarterTurnsBack : ℕ → ℕ → Spot → Spot
-quarterTurnsBack A zero s = s
-quarterTurnsBack A (suc k) s = quarterTurnsBack A k (quarterTurnBack A s)
-
 -- ---- indices: "Slots 0 to 5 run left to right, top row first"; "a sample's index is row × 3A + column"
 
 -- the index of a spot of a slot
@@ -109,23 +102,17 @@ index A L P =
     let slot = slotOf L (P .face) in
     indexInSlot A slot (quarterTurns A (quarterTurnsIn L slot) (spot (P .column) (P .row)))
 
--- the slot at an index, and the spot of that slot: row i / 3A and column i % 3A of the frame
-unfoldable pub slotAt : ℕ → ℕ → ℕ
-slotAt A i = i / (3 * A) / A * 3 + i % (3 * A) / A
+-- the places of a face size by number: face after face, row after row
+unfoldable pub placeNumbered : ℕ → ℕ → Place
+placeNumbered A k = place (k / A / A) (k % A) (k / A % A)
 
-unfoldable pub spotAt : ℕ → ℕ → Spot
-spotAt A i = spot (i % (3 * A) % A) (i / (3 * A) % A)
-
--- the place that the layout L has at the index i
+-- the place that the layout L has at the index i: the one that it puts there
 unfoldable pub placeAt : ℕ → List ℕ → ℕ → Place
-placeAt A L i =
-    let slot = slotAt A i in
-    let s = quarterTurnsBack A (quarterTurnsIn L slot) (spotAt A i) in
-    place (faceIn L slot) (s .column) (s .row)
+placeAt A L i = placeNumbered A (lowest (λ k. eqb (index A L (placeNumbered A k)) i) (planeSamples A))
 
 -- the sample that a plane of bytes has at a place, and that a frame has there
-abbrev pub sampleOn : List ℕ → ℕ → List ℕ → Place → ℕ
-sampleOn bytes A L P = sampleAt bytes (index A L P)
+abbrev pub sampleAtPlace : List ℕ → ℕ → List ℕ → Place → ℕ
+sampleAtPlace bytes A L P = sampleAt bytes (index A L P)
 
-abbrev pub sampleOf : Frame → Place → ℕ
-sampleOf F P = sampleOn (F .bytes) (F .shape .size) (F .layout) P
+abbrev pub frameSample : Frame → Place → ℕ
+frameSample F P = sampleAtPlace (F .bytes) (F .shape .size) (F .layout) P

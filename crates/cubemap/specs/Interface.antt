@@ -8,12 +8,12 @@ use lib.IntN.{ℤ, pos, negsuc}
 use Rattle.cubemap.specs.declared.Format.{Format}
 use Rattle.cubemap.specs.declared.Sampler.{Sampler}
 
--- "Two formats ..: CMP, code 0, and ACP, code 1." Check 4 refuses every other code, so that what those stand for here does not matter.
+-- "CMP, code 0, and ACP, code 1": check 4 refuses every call that names another code
 abbrev pub formatOf : ℕ → Format
 formatOf zero = Format.Cmp
 formatOf (suc c) = Format.Acp
 
--- "Nearest, code 0 .. Cubic, code 1"; every other code is refused likewise.
+-- "Nearest, code 0", "Cubic, code 1": likewise
 abbrev pub samplerOf : ℕ → Sampler
 samplerOf zero = Sampler.Nearest
 samplerOf (suc c) = Sampler.Cubic
@@ -38,7 +38,7 @@ isAccepted a = eqb (a .number) 0
 abbrev pub returnCode : Answer → ℕ
 returnCode a = a .number + 256 * a .index
 
--- ---- numbers in a lent buffer: "eight bytes a number, two's complement, little-endian"
+-- ---- an answer in a lent buffer: "eight bytes a number, two's complement, little-endian"
 
 -- the lowest n bytes of v, the low one first
 abbrev pub littleEndian : ℕ → ℕ → List ℕ

@@ -8,18 +8,17 @@ use lib.Dec.{leb, ltb, eqb}
 use lib.ListN.{length, take, drop, getD}
 use lib.IntN.{ℤ, pos, negsuc}
 use Rattle.cubemap.specs.declared.Ray.{Ray}
-use Rattle.cubemap.specs.Interface.{formatOf, isAccepted}
+use Rattle.cubemap.specs.Interface.{isAccepted}
 use Rattle.cubemap.specs.PlaceToRay.{ray}
-use Rattle.cubemap.specs.RayToPlace.{locate}
-use Rattle.cubemap.specs.Checks.{Check, check, firstFailed, lookUpChecks}
-use Rattle.cubemap.specs.Outcomes.{Result, ifAccepted, lookUpValues}
+use Rattle.cubemap.specs.Checks.{Check, check, firstFailed}
+use Rattle.cubemap.specs.Outcomes.{Result, result, lookUpResult}
 
--- ---- records: "length of the body, 4 bytes; kind, 2 bytes; body .. all little-endian". The definitions take the input from a record on.
+-- ---- records: "length of the body, 4 bytes; kind, 2 bytes; body". The definitions take the input from a record on.
 
--- n bytes from place i on, little-endian
+-- the number in the n bytes from byte i on, little-endian
 abbrev pub readFrom : List ℕ → ℕ → ℕ → ℕ
 readFrom b i zero = 0
-readFrom b i (suc n) = getD b i 0 + 256 * readFrom b (suc i) n
+readFrom b i (suc n) = getD b i 0 + 256 * readFrom b (i + 1) n
 
 -- four bytes in two's complement
 abbrev pub signed32 : ℕ → ℤ
@@ -49,16 +48,17 @@ unfoldable pub isWhole : List ℕ → Bool
 isWhole b = leb 6 (length b) && leb (recordLength b) (length b)
 
 -- 15: "Is the record's kind 1 with length 15?"
-unfoldable pub isRay : List ℕ → Bool
-isRay b = eqb (kind b) 1 && eqb (bodyLength b) 15
+unfoldable pub isRayRecord : List ℕ → Bool
+isRayRecord b = eqb (kind b) 1 && eqb (bodyLength b) 15
 
 -- "The program puts 16, 15, then the look-up's."
 unfoldable pub recordChecks : List ℕ → List Check
-recordChecks b = check 16 (isWhole b) ∷ check 15 (isRay b) ∷ lookUpChecks (recordSize b) (recordFormat b) (recordRay b)
+recordChecks b = check 16 (isWhole b) ∷ check 15 (isRayRecord b) ∷ []
 
 unfoldable pub recordResult : List ℕ → Result
 recordResult b =
-    ifAccepted (firstFailed (recordChecks b)) (lookUpValues (locate (formatOf (recordFormat b)) (recordSize b) (recordRay b)))
+    let a = firstFailed (recordChecks b) in
+    cond (isAccepted a) (lookUpResult (recordSize b) (recordFormat b) (recordRay b)) (result a [])
 
 -- ---- text
 

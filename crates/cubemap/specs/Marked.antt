@@ -8,14 +8,14 @@ use lib.IntN.{ℤ, pos, negℤ}
 use Rattle.cubemap.specs.declared.Format.{Format}
 use Rattle.cubemap.specs.declared.Rotation.{Rotation}
 use Rattle.cubemap.specs.Interface.{accepted, answer, littleEndian}
-use Rattle.cubemap.specs.Frames.{place, shapeOf, framed, usualLayout, index, sampleOn}
-use Rattle.cubemap.specs.PlaceToRay.{ray, curve}
-use Rattle.cubemap.specs.Rotations.{rotation}
+use Rattle.cubemap.specs.Frames.{place, shapeOf, framed, usualLayout, index, sampleAtPlace}
+use Rattle.cubemap.specs.PlaceToRay.{ray, curve, rayOf}
+use Rattle.cubemap.specs.Rotations.{rotation, rotated}
 use Rattle.cubemap.specs.RayToPlace.{located}
 use Rattle.cubemap.specs.Samplers.{tapWeight, nearestPlace}
 use Rattle.cubemap.specs.Score.{weight}
 use Rattle.cubemap.specs.Checks.{ConvertSettings, ScoreSettings}
-use Rattle.cubemap.specs.Outcomes.{result, outcome, lookUpResult, foldResult, foldOutcome, scoreOutcome, sourceRay, convertedSample}
+use Rattle.cubemap.specs.Outcomes.{result, outcome, lookUpResult, foldResult, foldOutcome, scoreOutcome, convertedSample}
 
 -- the codes of the two formats and of a sampler
 abbrev pub cmp : ℕ
@@ -30,13 +30,13 @@ nearest = 0
 abbrev pub minus : ℕ → ℤ
 minus n = negℤ (pos n)
 
--- a turn by the four numbers given, each a natural number
-abbrev pub turn : ℕ → ℕ → ℕ → ℕ → Rotation
-turn e0 e1 e2 e3 = rotation (pos e0) (pos e1) (pos e2) (pos e3)
+-- a rotation by four natural numbers
+abbrev pub rotationℕ : ℕ → ℕ → ℕ → ℕ → Rotation
+rotationℕ e0 e1 e2 e3 = rotation (pos e0) (pos e1) (pos e2) (pos e3)
 
 -- P8: CMP, A = 1, depth 8, both frames in the usual layout; every sample of a frame is v
-abbrev pub scored : ScoreSettings
-scored = record { shape = shapeOf 1 8 cmp; firstLayout = usualLayout; secondLayout = usualLayout }
+abbrev pub sizeOne : ScoreSettings
+sizeOne = record { shape = shapeOf 1 8 cmp; firstLayout = usualLayout; secondLayout = usualLayout }
 
 abbrev pub flat : ℕ → List ℕ
 flat v = framed (λ i. v) 6
@@ -50,7 +50,7 @@ quarterAboutY = record {
   sampler = nearest;
   sourceLayout = usualLayout;
   targetLayout = usualLayout;
-  rotation = turn 1 0 1 0;
+  rotation = rotationℕ 1 0 1 0;
 }
 
 pub record Marked : Type 0 where
@@ -75,18 +75,18 @@ pub record Marked : Type 0 where
       × (weight Format.Cmp 1 0 0 ≡ 65536)
   -- P8 | CMP, A=1, all samples 10 against 12 | 1572864 of 393216
   pub P8 :
-      scoreOutcome scored (flat 10) (flat 12) (replicate 16 0)
+      scoreOutcome sizeOne (flat 10) (flat 12) (replicate 16 0)
       ≡ outcome accepted (littleEndian 8 1572864 ++ littleEndian 8 393216)
   -- P9 | fold (1,1,0,0), then (1,0,1,0) | (1,1,1,1)
-  pub P9 : foldResult (turn 1 1 0 0) (turn 1 0 1 0) ≡ result accepted (pos 1 ∷ pos 1 ∷ pos 1 ∷ pos 1 ∷ [])
+  pub P9 : foldResult (rotationℕ 1 1 0 0) (rotationℕ 1 0 1 0) ≡ result accepted (pos 1 ∷ pos 1 ∷ pos 1 ∷ pos 1 ∷ [])
   -- P10 | the other order | (1,1,1,−1)
-  pub P10 : foldResult (turn 1 0 1 0) (turn 1 1 0 0) ≡ result accepted (pos 1 ∷ pos 1 ∷ pos 1 ∷ minus 1 ∷ [])
+  pub P10 : foldResult (rotationℕ 1 0 1 0) (rotationℕ 1 1 0 0) ≡ result accepted (pos 1 ∷ pos 1 ∷ pos 1 ∷ minus 1 ∷ [])
   -- P11 | fold (31,1,0,0) with itself | refused, 12
-  pub P11 : (buffer : List ℕ) → foldOutcome (turn 31 1 0 0) (turn 31 1 0 0) buffer ≡ outcome (answer 12 0) buffer
+  pub P11 : (buffer : List ℕ) → foldOutcome (rotationℕ 31 1 0 0) (rotationℕ 31 1 0 0) buffer ≡ outcome (answer 12 0) buffer
   -- P12 | A=3, turn (1,0,1,0), target face 0 m=0 n=1, nearest | source face 5 m=0 n=1
   pub P12 :
-      (lookUpResult 3 cmp (sourceRay quarterAboutY (place 0 0 1)) ≡ result accepted (pos 5 ∷ pos 0 ∷ pos 64 ∷ []))
+      (lookUpResult 3 cmp (rotated (rotationℕ 1 0 1 0) (rayOf Format.Cmp 3 (place 0 0 1))) ≡ result accepted (pos 5 ∷ pos 0 ∷ pos 64 ∷ []))
       × (nearestPlace 3 (located 5 (pos 0) (pos 64)) ≡ place 5 0 1)
-      × ((source : List ℕ) → convertedSample quarterAboutY source (place 0 0 1) ≡ sampleOn source 3 usualLayout (place 5 0 1))
+      × ((source : List ℕ) → convertedSample quarterAboutY source (place 0 0 1) ≡ sampleAtPlace source 3 usualLayout (place 5 0 1))
   -- P13 | usual layout, A=2, face 3 m=0 n=1 | index 12
   pub P13 : index 2 usualLayout (place 3 0 1) ≡ 12

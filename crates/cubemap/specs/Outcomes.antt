@@ -15,8 +15,9 @@ use Rattle.cubemap.specs.declared.Ray.{Ray}
 use Rattle.cubemap.specs.declared.Refusal.{Refusal}
 use Rattle.cubemap.specs.declared.Rotation.{Rotation}
 use Rattle.cubemap.specs.declared.Scored.{Scored}
+use Rattle.cubemap.specs.declared.Shape.{Shape}
 use Rattle.cubemap.specs.Interface.{formatOf, samplerOf, Answer, answer, accepted, isAccepted, putAll}
-use Rattle.cubemap.specs.Frames.{framed, planeSamples, placeAt, sampleOn}
+use Rattle.cubemap.specs.Frames.{framed, planeSamples, placeAt, sampleAtPlace}
 use Rattle.cubemap.specs.PlaceToRay.{rayOf}
 use Rattle.cubemap.specs.Rotations.{rotated, compose, sameRotation}
 use Rattle.cubemap.specs.RayToPlace.{locate}
@@ -65,32 +66,32 @@ equalValues b = cond b (pos 1) (pos 0) ∷ []
 
 -- ---- convert
 
--- "The matrix is applied to the target's ray and gives the source's ray": of a place of the target
-unfoldable pub sourceRay : ConvertSettings → Place → Ray
-sourceRay s P = rotated (s .rotation) (rayOf (formatOf (s .targetFormat)) (s .targetSize) P)
+-- where a ray of the target falls on a frame of this shape. "The matrix is applied to the target's ray and gives the source's ray."
+unfoldable pub sourcePosition : Shape → Rotation → Ray → Located
+sourcePosition z t r = locate (formatOf (z .format)) (z .size) (rotated t r)
 
--- where that ray falls on the source
-unfoldable pub sourcePosition : ConvertSettings → Place → Located
-sourcePosition s P = locate (formatOf (s .sourceShape .format)) (s .sourceShape .size) (sourceRay s P)
+-- the sampler's value there: shape, layout and bytes of the source, sampler code, position
+unfoldable pub valueAt : Shape → List ℕ → List ℕ → ℕ → Located → ℕ
+valueAt z L bytes sampler p = sampleFrom (samplerOf sampler) (z .size) (z .depth) (sampleAtPlace bytes (z .size) L) p
 
--- the target's sample at a place: the sampler's value there
+-- the target's sample at a place
 unfoldable pub convertedSample : ConvertSettings → List ℕ → Place → ℕ
 convertedSample s source P =
-    let z = s .sourceShape in
-    sampleFrom (samplerOf (s .sampler)) (z .size) (z .depth) (sampleOn source (z .size) (s .sourceLayout)) (sourcePosition s P)
+    let r = rayOf (formatOf (s .targetFormat)) (s .targetSize) P in
+    valueAt (s .sourceShape) (s .sourceLayout) source (s .sampler) (sourcePosition (s .sourceShape) (s .rotation) r)
 
 unfoldable pub convertedBytes : ConvertSettings → List ℕ → List ℕ
 convertedBytes s source =
     framed (λ i. convertedSample s source (placeAt (s .targetSize) (s .targetLayout) i)) (planeSamples (s .targetSize))
 
--- "A conversion is accepted when none of convert's questions ends it; else it is refused."
-abbrev pub convertAnswer : ConvertSettings → List ℕ → List ℕ → Answer
-convertAnswer s source target = firstFailed (convertChecks s (length source) (length target) source)
+-- "A conversion is accepted when none of convert's questions ends it; else it is refused.": the lengths of source and target, the source's bytes
+unfoldable pub convertAnswer : ConvertSettings → ℕ → ℕ → List ℕ → Answer
+convertAnswer s sourceLength targetLength source = firstFailed (convertChecks s sourceLength targetLength source)
 
 -- where a check fails, "All lent memory keeps its bytes."
 unfoldable pub convertOutcome : ConvertSettings → List ℕ → List ℕ → Outcome
 convertOutcome s source target =
-    let a = convertAnswer s source target in
+    let a = convertAnswer s (length source) (length target) source in
     outcome a (cond (isAccepted a) (convertedBytes s source) target)
 
 -- ---- score
@@ -101,7 +102,7 @@ scoreResult s first second =
     let format = formatOf (s .shape .format) in
     ifAccepted (firstFailed (scoreChecks s first second))
     (scoreValues
-    (errorSum format A (sampleOn first A (s .firstLayout)) (sampleOn second A (s .secondLayout)))
+    (errorSum format A (sampleAtPlace first A (s .firstLayout)) (sampleAtPlace second A (s .secondLayout)))
     (weightSum format A))
 
 abbrev pub scoreOutcome : ScoreSettings → List ℕ → List ℕ → List ℕ → Outcome
@@ -121,7 +122,7 @@ equalResult first second = ifAccepted (firstFailed (equalChecks first second)) (
 abbrev pub equalOutcome : Rotation → Rotation → List ℕ → Outcome
 equalOutcome first second buffer = written (equalResult first second) buffer
 
--- ---- "look up a ray": face size, format code, ray
+-- ---- look up a ray: face size, format code, ray
 
 unfoldable pub lookUpResult : ℕ → ℕ → Ray → Result
 lookUpResult A format v = ifAccepted (firstFailed (lookUpChecks A format v)) (lookUpValues (locate (formatOf format) A v))
@@ -132,7 +133,7 @@ lookUpOutcome A format v buffer = written (lookUpResult A format v) buffer
 -- ---- "Where an answer is an enum, a definition states this paper's number and values for each of its cases"
 
 abbrev pub refusal : Refusal → Answer
-refusal Refusal.SourceSize = answer 1 0
+refusal Refusal.FaceSize = answer 1 0
 refusal Refusal.TargetSize = answer 2 0
 refusal Refusal.Depth = answer 3 0
 refusal Refusal.Code = answer 4 0
@@ -161,7 +162,7 @@ scoredMeans (Scored.Sums errors weights) = result accepted (scoreValues errors w
 scoredMeans (Scored.Refused r) = refused r
 
 abbrev pub foldedMeans : Folded → Result
-foldedMeans (Folded.Turn t) = result accepted (foldValues t)
+foldedMeans (Folded.Composed t) = result accepted (foldValues t)
 foldedMeans (Folded.Refused r) = refused r
 
 abbrev pub comparedMeans : Compared → Result

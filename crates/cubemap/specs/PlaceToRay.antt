@@ -35,11 +35,12 @@ scale Format.Cmp A = A
 scale Format.Acp A = N
 
 -- a of column m, and b of row m. "CMP: .. a = p, b = q." ACP: the curve is its size, "its sign that of p; b likewise from q"
-abbrev pub planeNumber : Format → ℕ → ℕ → ℤ
-planeNumber Format.Cmp A m = fromCentre A m
-planeNumber Format.Acp A m = withSignOf (fromCentre A m) (curve A (natAbs (fromCentre A m)))
+abbrev pub faceCoordinate : Format → ℕ → ℕ → ℤ
+faceCoordinate Format.Cmp A m = fromCentre A m
+faceCoordinate Format.Acp A m = withSignOf (fromCentre A m) (curve A (natAbs (fromCentre A m)))
 
--- the row of a face in a table of six rows, faces 0 to 5. (No layout or ray gives a face above 5; here it takes the last row.)
+-- the row of a face in a table of six rows, faces 0 to 5. (A face above 5 takes the last one; no layout that passes check 5 names it, and no ray that
+-- passes check 14 has it.)
 abbrev pub rowOf {ℓ} : {E : Type ℓ} → ℕ → E → E → E → E → E → E → E
 rowOf zero r0 r1 r2 r3 r4 r5 = r0
 rowOf (suc zero) r0 r1 r2 r3 r4 r5 = r1
@@ -61,4 +62,4 @@ table3 face s a b = rowOf face
 -- the ray of a place, in a format at a face size
 unfoldable pub rayOf : Format → ℕ → Place → Ray
 rayOf format A P =
-    table3 (P .face) (pos (scale format A)) (planeNumber format A (P .column)) (planeNumber format A (P .row))
+    table3 (P .face) (pos (scale format A)) (faceCoordinate format A (P .column)) (faceCoordinate format A (P .row))

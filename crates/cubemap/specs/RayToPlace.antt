@@ -1,4 +1,4 @@
--- The paper, "From ray to place". Its T is position64 here: a position in 64ths of a sample. Its look-up is locate.
+-- The paper, "From ray to place". Its T is position64 here: a position in 64ths of a sample. What its look-up finds is locate.
 use mathlib.Core.Bool.{Bool, _&&_, cond}
 use Prim.Native.Nat.{ℕ, _*_}
 use lib.Dec.{leb}

@@ -19,8 +19,8 @@ abbrev pub identity : Rotation
 identity = rotation (pos 1) (pos 0) (pos 0) (pos 0)
 
 -- "the sum of the four squares"
-unfoldable pub squares : Rotation → ℕ
-squares t =
+unfoldable pub sumOfSquares : Rotation → ℕ
+sumOfSquares t =
     natAbs (t .e0) * natAbs (t .e0) + natAbs (t .e1) * natAbs (t .e1)
     + natAbs (t .e2) * natAbs (t .e2) + natAbs (t .e3) * natAbs (t .e3)
 
@@ -50,11 +50,11 @@ row3 t = ray
 abbrev pub dot : Ray → Ray → ℤ
 dot r v = r .x *ℤ v .x +ℤ r .y *ℤ v .y +ℤ r .z *ℤ v .z
 
--- "The matrix is applied to the target's ray and gives the source's ray."
+-- the matrix applied to a ray
 unfoldable pub rotated : Rotation → Ray → Ray
 rotated t v = ray (dot (row1 t) v) (dot (row2 t) v) (dot (row3 t) v)
 
--- ---- "A whole-cube turn is one whose nine entries are each 0 or ± the sum of the four squares."
+-- ---- "A whole-cube turn is one whose nine entries are each 0 or ± the sum of the four squares." (Check 7 refuses four zeros.)
 
 abbrev pub cubeEntry : ℕ → ℤ → Bool
 cubeEntry S x = eqb (natAbs x) 0 || eqb (natAbs x) S
@@ -63,7 +63,7 @@ abbrev pub cubeRow : ℕ → Ray → Bool
 cubeRow S r = cubeEntry S (r .x) && cubeEntry S (r .y) && cubeEntry S (r .z)
 
 unfoldable pub isCubeRotation : Rotation → Bool
-isCubeRotation t = cubeRow (squares t) (row1 t) && cubeRow (squares t) (row2 t) && cubeRow (squares t) (row3 t)
+isCubeRotation t = cubeRow (sumOfSquares t) (row1 t) && cubeRow (sumOfSquares t) (row2 t) && cubeRow (sumOfSquares t) (row3 t)
 
 abbrev pub CubeRotation : Rotation → Type 0
 CubeRotation t = T (isCubeRotation t)
@@ -111,11 +111,11 @@ abbrev pub opposite : Rotation → Rotation
 opposite t = rotation (negℤ (t .e0)) (negℤ (t .e1)) (negℤ (t .e2)) (negℤ (t .e3))
 
 -- "then, if its first nonzero number is negative, all four change sign"
-unfoldable pub signed : Rotation → Rotation
-signed t = cond (firstNegative t) (opposite t) t
+unfoldable pub signNormalized : Rotation → Rotation
+signNormalized t = cond (firstNegative t) (opposite t) t
 
 abbrev pub reduced : Rotation → Rotation
-reduced t = signed (divided t)
+reduced t = signNormalized (divided t)
 
 -- the fold of a first and a later turn
 unfoldable pub compose : Rotation → Rotation → Rotation

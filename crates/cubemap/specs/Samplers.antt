@@ -33,7 +33,7 @@ phase t = t -ℤ pos 64 *ℤ base t
 abbrev pub tapAt : ℤ → ℕ → ℤ
 tapAt t j = base t +ℤ pos j -ℤ pos 1
 
--- "clipped to 0..n−1"
+-- clipped to 0..n−1
 abbrev pub clip : ℕ → ℤ → ℕ
 clip n (pos z) = min z (n - 1)
 clip n (negsuc z) = 0

@@ -1,7 +1,7 @@
 -- The paper, "Score".
-use Prim.Native.Nat.{ℕ, _+_, _*_, _-_, _^_}
+use Prim.Native.Nat.{ℕ, _+_, _*_, _^_}
 use lib.Dec.{leb}
-use lib.IntN.{natAbs}
+use lib.IntN.{pos, natAbs, _-ℤ_}
 use Rattle.arithmetic.specs.Searches.{largest}
 use Rattle.arithmetic.specs.Sums.{sumBelow}
 use Rattle.cubemap.specs.declared.Format.{Format}
@@ -17,9 +17,9 @@ weightOf A p q = largest (λ W. leb (W * W * (A * A + p * p + q * q) ^ 3) (2 ^ 3
 unfoldable pub weight : Format → ℕ → ℕ → ℕ → ℕ
 weight format A m n = weightOf A (natAbs (fromCentre A m)) (natAbs (fromCentre A n))
 
--- |x − y|: a difference of natural numbers is 0 where it would be negative
+-- |x − y|
 abbrev pub difference : ℕ → ℕ → ℕ
-difference x y = (x - y) + (y - x)
+difference x y = natAbs (pos x -ℤ pos y)
 
 unfoldable pub squaredDifference : ℕ → ℕ → ℕ
 squaredDifference x y = difference x y * difference x y

@@ -50,7 +50,7 @@ pub struct Located {
 
 // A refusal (the paper's "no"): a case for each question, 1 to 16. Questions 10 and 11 bring the lowest offending index.
 pub enum Refusal {
-    SourceSize,
+    FaceSize,
     TargetSize,
     Depth,
     Code,
@@ -82,7 +82,7 @@ pub enum Scored {
 
 // What fold answers: the folded rotation.
 pub enum Folded {
-    Turn(Rotation),
+    Composed(Rotation),
     Refused(Refusal),
 }
 

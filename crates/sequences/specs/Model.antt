@@ -6,9 +6,10 @@ use Prim.Native.Nat.{ℕ}
 use lib.ListN.{length}
 use Rattle.cubemap.specs.declared.Rotation.{Rotation}
 use Rattle.cubemap.specs.Interface.{Answer, isAccepted}
-use Rattle.cubemap.specs.Frames.{Frame, framed, planeSamples, placeAt, sampleOf}
+use Rattle.cubemap.specs.Frames.{Frame, framed, planeSamples, placeAt, frameSample}
 use Rattle.cubemap.specs.Rotations.{identity, compose, CubeRotation}
-use Rattle.cubemap.specs.Checks.{ConvertSettings, targetShape, firstFailed, convertChecks}
+use Rattle.cubemap.specs.Checks.{ConvertSettings, targetShape}
+use Rattle.cubemap.specs.Outcomes.{convertAnswer}
 use Rattle.cubemap.specs.Promises.{ConvertCall}
 use Rattle.sequences.specs.Steps.{ledTo}
 
@@ -27,11 +28,10 @@ unfoldable pub toldAll : List ConvertCall → List Told
 toldAll [] = []
 toldAll (c ∷ cs) = told c ∷ toldAll cs
 
--- "0 where accepted, else the number and index of the question that ended it", of a call that reads these bytes
-unfoldable pub answerTo : Told → List ℕ → Answer
-answerTo c bytes = firstFailed (convertChecks (c .settings) (c .sourceLength) (c .targetLength) bytes)
+-- what a call that reads these bytes must answer: "0 where accepted, else the number and index of the question that ended it"
+abbrev pub answerTo : Told → List ℕ → Answer
+answerTo c bytes = convertAnswer (c .settings) (c .sourceLength) (c .targetLength) bytes
 
--- "A conversion is accepted when none of convert's questions ends it; else it is refused."
 abbrev pub accepts : Told → List ℕ → Bool
 accepts c bytes = isAccepted (answerTo c bytes)
 
@@ -42,8 +42,8 @@ pub record Model : Type 0 where
   pub fold : Rotation
 
 -- "at the start the first frame and (1,0,0,0)"
-abbrev pub opened : Frame → Model
-opened first = record { frame = first; fold = identity }
+abbrev pub atStart : Frame → Model
+atStart first = record { frame = first; fold = identity }
 
 -- "An accepted conversion by turn t replaces the frame by one of the same size, depth and format in the target's layout": the sample at each place
 -- is the old frame's where the step leads
@@ -53,30 +53,30 @@ movedFrame F s =
     record {
       shape = F .shape;
       layout = s .targetLayout;
-      bytes = framed (λ i. sampleOf F (ledTo (F .shape) (s .rotation) (placeAt A (s .targetLayout) i))) (planeSamples A);
+      bytes = framed (λ i. frameSample F (ledTo (F .shape) (s .rotation) (placeAt A (s .targetLayout) i))) (planeSamples A);
     }
 
 -- "The new fold is that of the old fold, as first, and t, as later."
-abbrev pub entered : Model → ConvertSettings → Model
-entered b s = record { frame = movedFrame (b .frame) s; fold = compose (b .fold) (s .rotation) }
+abbrev pub afterAccepted : Model → ConvertSettings → Model
+afterAccepted b s = record { frame = movedFrame (b .frame) s; fold = compose (b .fold) (s .rotation) }
 
 -- "A refused conversion, whatever its settings, changes neither." "the source's bytes are those of its own frame"
-unfoldable pub enter : Model → Told → Model
-enter b c = cond (accepts c (b .frame .bytes)) (entered b (c .settings)) b
+unfoldable pub afterCall : Model → Told → Model
+afterCall b c = cond (accepts c (b .frame .bytes)) (afterAccepted b (c .settings)) b
 
-unfoldable pub model : Model → List Told → Model
-model b [] = b
-model b (c ∷ cs) = model (enter b c) cs
+unfoldable pub afterCalls : Model → List Told → Model
+afterCalls b [] = b
+afterCalls b (c ∷ cs) = afterCalls (afterCall b c) cs
 
 -- the model after a list of calls
 abbrev pub modelOf : Frame → List ConvertCall → Model
-modelOf first cs = model (opened first) (toldAll cs)
+modelOf first cs = afterCalls (atStart first) (toldAll cs)
 
 -- the accepted turns, in order
-unfoldable pub acceptedTurns : Model → List Told → List Rotation
-acceptedTurns b [] = []
-acceptedTurns b (c ∷ cs) =
-    cond (accepts c (b .frame .bytes)) (c .settings .rotation ∷ acceptedTurns (enter b c) cs) (acceptedTurns (enter b c) cs)
+unfoldable pub acceptedRotations : Model → List Told → List Rotation
+acceptedRotations b [] = []
+acceptedRotations b (c ∷ cs) =
+    cond (accepts c (b .frame .bytes)) (c .settings .rotation ∷ acceptedRotations (afterCall b c) cs) (acceptedRotations (afterCall b c) cs)
 
 -- ---- the frames of a list, as the calls leave them
 
@@ -92,9 +92,9 @@ unfoldable pub lastFrame : Frame → List ConvertCall → Frame
 lastFrame F [] = F
 lastFrame F (c ∷ cs) = lastFrame (leftBy F c) cs
 
--- "An accepted conversion names for its source that frame's own size, depth, format and layout"; it is "by whole-cube turns to the first frame's
--- own size, depth and format"
-pub record Proper (F : Frame) (s : ConvertSettings) : Type 0 where
+-- "An accepted conversion names for its source that frame's own size, depth, format and layout"; it goes by a whole-cube turn to a frame "of the
+-- same size, depth and format"
+pub record OwnCubeTurn (F : Frame) (s : ConvertSettings) : Type 0 where
   pub own-shape : s .sourceShape ≡ F .shape
   pub own-layout : s .sourceLayout ≡ F .layout
   pub same-shape : targetShape s ≡ F .shape

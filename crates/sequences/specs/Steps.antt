@@ -2,7 +2,7 @@
 -- is the old frame's at the place with ray R·r/S; exactly one place has that ray."
 use mathlib.Core.Path.{_≡_}
 use mathlib.Core.Bool.{Bool, _&&_}
-use Prim.Native.Nat.{ℕ, _/_, _%_}
+use lib.Dec.{T}
 use Rattle.arithmetic.specs.Integers.{equalℤ}
 use Rattle.arithmetic.specs.Searches.{lowest}
 use Rattle.cubemap.specs.declared.Place.{Place}
@@ -10,31 +10,28 @@ use Rattle.cubemap.specs.declared.Ray.{Ray}
 use Rattle.cubemap.specs.declared.Rotation.{Rotation}
 use Rattle.cubemap.specs.declared.Shape.{Shape}
 use Rattle.cubemap.specs.Interface.{formatOf}
-use Rattle.cubemap.specs.Frames.{place, IsPlace, planeSamples}
+use Rattle.cubemap.specs.Frames.{IsPlace, planeSamples, placeNumbered}
 use Rattle.cubemap.specs.PlaceToRay.{times, rayOf}
-use Rattle.cubemap.specs.Rotations.{squares, rotated}
+use Rattle.cubemap.specs.Rotations.{sumOfSquares, rotated}
 
 -- the ray of a place of a frame with this shape
 abbrev pub rayIn : Shape → Place → Ray
 rayIn z P = rayOf (formatOf (z .format)) (z .size) P
 
--- R·r/S is the ray of the place Q, where r is the ray of P: R·r is S times the ray of Q
-pub record Leads (z : Shape) (t : Rotation) (P Q : Place) : Type 0 where
-  pub is-place : IsPlace (z .size) Q
-  pub same-ray : rotated t (rayIn z P) ≡ times (squares t) (rayIn z Q)
-
--- the same as a test
 abbrev pub sameRay : Ray → Ray → Bool
 sameRay u v = equalℤ (u .x) (v .x) && equalℤ (u .y) (v .y) && equalℤ (u .z) (v .z)
 
+-- is R·r/S, where r is the ray of P, the ray of Q? R·r is S times the ray of Q
 abbrev pub leads : Shape → Rotation → Place → Place → Bool
-leads z t P Q = sameRay (rotated t (rayIn z P)) (times (squares t) (rayIn z Q))
+leads z t P Q = sameRay (rotated t (rayIn z P)) (times (sumOfSquares t) (rayIn z Q))
 
--- the places of a face size by number: face after face, row after row
-unfoldable pub placeNumbered : ℕ → ℕ → Place
-placeNumbered A k = place (k / A / A) (k % A) (k / A % A)
+-- the step by t leads from P to the place Q
+pub record Leads (z : Shape) (t : Rotation) (P Q : Place) : Type 0 where
+  pub is-place : IsPlace (z .size) Q
+  pub same-ray : T (leads z t P Q)
 
--- the place that the step by t leads to from P: "the place with ray R·r/S"
+-- the place that the step by t leads to from P: "the place with ray R·r/S". (Exactly one has it where the size is 1 to 512 and t is a whole-cube turn
+-- that is not all zero.)
 unfoldable pub ledTo : Shape → Rotation → Place → Place
 ledTo z t P = placeNumbered (z .size) (lowest (λ k. leads z t P (placeNumbered (z .size) k)) (planeSamples (z .size)))
 
