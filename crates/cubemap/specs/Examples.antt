@@ -34,8 +34,8 @@ abbrev pub otherLayout : List ℕ
 otherLayout = 0 ∷ 1 ∷ 2 ∷ 3 ∷ 4 ∷ 5 ∷ 3 ∷ 2 ∷ 1 ∷ 0 ∷ 1 ∷ 2 ∷ []
 
 -- size 2, depth 8, from the usual layout into the other one, to CMP: format of the source, sampler, the turn's four numbers
-abbrev between2 : ℕ → ℕ → Rotation → ConvertSettings
-between2 format sampler t = record {
+abbrev settingsOfSize2 : ℕ → ℕ → Rotation → ConvertSettings
+settingsOfSize2 format sampler t = record {
   sourceShape = shapeOf 2 8 format;
   targetSize = 2;
   targetFormat = cmp;
@@ -46,29 +46,29 @@ between2 format sampler t = record {
 }
 
 -- the frame of size 2 with these samples
-abbrev framed2 : List ℕ → List ℕ
-framed2 vs = framed (λ i. getD vs i 0) 24
+abbrev frameOfSize2 : List ℕ → List ℕ
+frameOfSize2 vs = framed (λ i. getD vs i 0) 24
 
-abbrev source2 : List ℕ
-source2 = framed (λ i. i * i * 7 % 256) 24
+abbrev sourceOfSize2 : List ℕ
+sourceOfSize2 = framed (λ i. i * i * 7 % 256) 24
 
 pub record Examples : Type 0 where
   -- "12·A² bytes"
   pub frame-bytes : (z : Shape) → bytesIn z ≡ 12 * z .size * z .size
   -- the turn (3,1,2,0) at nearest, and from ACP at cubic
   pub converted-nearest :
-      convertOutcome (between2 cmp 0 (rotationℕ 3 1 2 0)) source2 (replicate 48 7)
-      ≡ outcome accepted (framed2 (
+      convertOutcome (settingsOfSize2 cmp 0 (rotationℕ 3 1 2 0)) sourceOfSize2 (replicate 48 7)
+      ≡ outcome accepted (frameOfSize2 (
       119 ∷ 175 ∷ 159 ∷ 240 ∷ 7 ∷ 0 ∷ 63 ∷ 188 ∷ 87 ∷ 0 ∷ 28 ∷ 119
       ∷ 159 ∷ 220 ∷ 223 ∷ 87 ∷ 92 ∷ 175 ∷ 92 ∷ 79 ∷ 55 ∷ 28 ∷ 15 ∷ 231 ∷ []))
   pub converted-cubic :
-      convertOutcome (between2 acp 1 (rotationℕ 3 1 2 0)) source2 (replicate 48 7)
-      ≡ outcome accepted (framed2 (
+      convertOutcome (settingsOfSize2 acp 1 (rotationℕ 3 1 2 0)) sourceOfSize2 (replicate 48 7)
+      ≡ outcome accepted (frameOfSize2 (
       155 ∷ 138 ∷ 171 ∷ 255 ∷ 4 ∷ 0 ∷ 65 ∷ 195 ∷ 84 ∷ 4 ∷ 28 ∷ 125
       ∷ 199 ∷ 220 ∷ 226 ∷ 58 ∷ 114 ∷ 152 ∷ 137 ∷ 71 ∷ 57 ∷ 71 ∷ 0 ∷ 244 ∷ []))
   -- a sampler code of 2 and no nonzero number: the earlier question's number, and the target stays
   pub convert-refused :
-      (source target : List ℕ) → convertOutcome (between2 cmp 2 (rotationℕ 0 0 0 0)) source target ≡ outcome (answer 4 0) target
+      (source target : List ℕ) → convertOutcome (settingsOfSize2 cmp 2 (rotationℕ 0 0 0 0)) source target ≡ outcome (answer 4 0) target
   -- "Division below zero rounds down: T = −32 has base −1 and phase 32."
   pub left-rim : (base (minus 32) ≡ minus 1) × (phase (minus 32) ≡ pos 32)
   -- T = 1/2 and T = −1/2, "halves upward": column 1, row 0
