@@ -1,0 +1,10 @@
+pub mod Tests
+pub mod Integers
+pub mod Sizes
+pub mod Ring
+pub mod Order
+pub mod Floors
+pub mod Held
+pub mod Searches
+pub mod Sums
+pub mod Tables

@@ -1,0 +1,75 @@
+-- The order of ℤ by differences: a ≤ b says that b is a and a natural number, a < b that it is a and one above 0. With the ring solver this gives the
+-- other laws.
+use mathlib.Core.Path.{_≡_, refl, sym, _∙_, ap, ap₂, subst}
+use mathlib.Core.List.{[], _∷_}
+use mathlib.Core.Bool.{Bool, true, false, cond}
+use Prim.Native.Nat.{ℕ, suc, _+_, _*_, _-_, _<_}
+use native.Mathlib.Omega.{arith}
+use lib.Dec.{T, leb→le, le→leb, ltb, ltb→lt, lt→ltb}
+use lib.IntN.{ℤ, pos, negsuc, _+ℤ_, _*ℤ_}
+use lib.Signed.{_≤ℤ_, _<ℤ_, leZ, ltZ}
+use Rattle.arithmetic.proofs.Ring.{var, _⊕_, _⊗_, ⊖, solve}
+use Rattle.arithmetic.proofs.Sizes.{neg-above}
+
+above : (a : ℤ) (n : ℕ) → T (leZ a (a +ℤ pos n))
+above (pos x) n = le→leb x (x + n) (omega arith)
+above (negsuc x) n = go (ltb n (suc x)) refl
+  where
+    go : (t : Bool) → ltb n (suc x) ≡ t → T (leZ (negsuc x) (cond t (negsuc (suc x - suc n)) (pos (n - suc x))))
+    go true e = le→leb (suc x - suc n) x (omega arith)
+    go false e = tt
+
+pub le-intro : (a b : ℤ) (n : ℕ) → b ≡ a +ℤ pos n → a ≤ℤ b
+le-intro a b n e = record { le = subst (λ z. T (leZ a z)) (sym e) (above a n) }
+
+pub le-elim : (a b : ℤ) → a ≤ℤ b → (n : ℕ) × (b ≡ a +ℤ pos n)
+le-elim a b h = step a b (h .le)
+  where
+    step : (a b : ℤ) → T (leZ a b) → (n : ℕ) × (b ≡ a +ℤ pos n)
+    step (pos a) (pos b) t = let h = leb→le a b t in (b - a, ap pos (omega arith))
+    step (pos a) (negsuc b) t = absurd t
+    step (negsuc a) (pos b) t = (b + suc a, solve (pos (suc a) ∷ pos b ∷ []) (var 1) (⊖ (var 0) ⊕ (var 1 ⊕ var 0)) tt)
+    step (negsuc a) (negsuc b) t = let h = leb→le b a t in (a - b, neg-above b (a - b) (suc a) (omega arith))
+
+strictly-above : (a : ℤ) (n : ℕ) → T (ltZ a (a +ℤ pos (suc n)))
+strictly-above (pos x) n = lt→ltb x (x + suc n) (omega arith)
+strictly-above (negsuc x) n = go (ltb (suc n) (suc x)) refl
+  where
+    go : (t : Bool) → ltb (suc n) (suc x) ≡ t → T (ltZ (negsuc x) (cond t (negsuc (suc x - suc (suc n))) (pos (suc n - suc x))))
+    go true e = let l : suc n < suc x = ltb→lt (suc n) (suc x) (subst T (sym e) tt) in lt→ltb (suc x - suc (suc n)) x (omega arith)
+    go false e = tt
+
+pub lt-intro : (a b : ℤ) (n : ℕ) → b ≡ a +ℤ pos (suc n) → a <ℤ b
+lt-intro a b n e = record { lt = subst (λ z. T (ltZ a z)) (sym e) (strictly-above a n) }
+
+pub lt-elim : (a b : ℤ) → a <ℤ b → (n : ℕ) × (b ≡ a +ℤ pos (suc n))
+lt-elim a b h = step a b (h .lt)
+  where
+    step : (a b : ℤ) → T (ltZ a b) → (n : ℕ) × (b ≡ a +ℤ pos (suc n))
+    step (pos a) (pos b) t = let h = ltb→lt a b t in (b - suc a, ap pos (omega arith))
+    step (pos a) (negsuc b) t = absurd t
+    step (negsuc a) (pos b) t =
+        let e : b + suc a ≡ suc (b + a) = omega arith in
+        (b + a, solve (pos (suc a) ∷ pos b ∷ []) (var 1) (⊖ (var 0) ⊕ (var 1 ⊕ var 0)) tt ∙ ap (λ m. negsuc a +ℤ pos m) e)
+    step (negsuc a) (negsuc b) t = let h = ltb→lt b a t in (a - suc b, neg-above b (suc (a - suc b)) (suc a) (omega arith))
+
+pub le-trans : (a b c : ℤ) → a ≤ℤ b → b ≤ℤ c → a ≤ℤ c
+le-trans a b c h g =
+    let p = le-elim a b h in
+    let q = le-elim b c g in
+    le-intro a c (p .0 + q .0)
+    (q .1 ∙ ap (λ z. z +ℤ pos (q .0)) (p .1) ∙ solve (a ∷ pos (p .0) ∷ pos (q .0) ∷ []) (var 0 ⊕ var 1 ⊕ var 2) (var 0 ⊕ (var 1 ⊕ var 2)) tt)
+
+pub le-add : (a b c d : ℤ) → a ≤ℤ b → c ≤ℤ d → (a +ℤ c) ≤ℤ (b +ℤ d)
+le-add a b c d h g =
+    let p = le-elim a b h in
+    let q = le-elim c d g in
+    le-intro (a +ℤ c) (b +ℤ d) (p .0 + q .0)
+    (ap₂ _+ℤ_ (p .1) (q .1)
+    ∙ solve (a ∷ c ∷ pos (p .0) ∷ pos (q .0) ∷ []) (var 0 ⊕ var 2 ⊕ (var 1 ⊕ var 3)) (var 0 ⊕ var 1 ⊕ (var 2 ⊕ var 3)) tt)
+
+pub le-mul : (m : ℕ) (a b : ℤ) → a ≤ℤ b → (pos m *ℤ a) ≤ℤ (pos m *ℤ b)
+le-mul m a b h =
+    let p = le-elim a b h in
+    le-intro (pos m *ℤ a) (pos m *ℤ b) (m * p .0)
+    (ap (λ z. pos m *ℤ z) (p .1) ∙ solve (pos m ∷ a ∷ pos (p .0) ∷ []) (var 0 ⊗ (var 1 ⊕ var 2)) (var 0 ⊗ var 1 ⊕ var 0 ⊗ var 2) tt)

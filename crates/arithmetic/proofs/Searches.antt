@@ -1,0 +1,145 @@
+-- What `largest` and `lowest` find, and what `allBelow` says.
+use mathlib.Core.Path.{_≡_, refl, sym, _∙_, ap, subst}
+use mathlib.Core.Bool.{Bool, true, false, not}
+use mathlib.Core.Logic.{_⊎_, inl, inr, ⊎-elim}
+use Prim.Native.Nat.{ℕ, zero, suc, _+_, _≤_, _<_}
+use native.Mathlib.Decide.{ℕ-discrete, decLt}
+use native.Mathlib.Nat.{eq-or-lt-of-le}
+use native.Mathlib.Omega.{arith}
+use lib.Dec.{T}
+use Rattle.arithmetic.specs.Searches.{largest, lowestFrom, lowest, allBelow}
+use Rattle.arithmetic.proofs.Tests.{and-left, and-right, and-both, passes, fails}
+
+-- ---- the largest
+
+-- c is the largest number from 0 to n that passes
+pub record IsLargest (test : ℕ → Bool) (n c : ℕ) : Type 0 where
+  pub bounded : c ≤ n
+  pub holds : T (test c)
+  pub most : (d : ℕ) → d ≤ n → T (test d) → d ≤ c
+
+-- where some number m from 0 to n passes, `largest` is it
+pub largest-is : (test : ℕ → Bool) (n m : ℕ) → m ≤ n → T (test m) → IsLargest test n (largest test n)
+unfolding largest
+largest-is test zero m h p =
+    let e : m ≡ 0 = omega arith in record { bounded = omega arith; holds = subst (λ k. T (test k)) e p; most = λ d a t. a }
+largest-is test (suc n) m h p = go (test (suc n)) refl (λ l. largest-is test n m l p)
+  where
+    go : (b : Bool) → test (suc n) ≡ b → (m ≤ n → IsLargest test n (largest test n))
+        → IsLargest test (suc n) (elim b [ true ↦ suc n | false ↦ largest test n ])
+    go true e ih = record { bounded = omega arith; holds = passes e; most = λ d a t. a }
+    go false e ih = record {
+      bounded = (let w = i .bounded in omega arith);
+      holds = i .holds;
+      most = λ d a t. i .most d (under d a t) t;
+    }
+      where
+        under : (d : ℕ) → d ≤ suc n → T (test d) → d ≤ n
+        under d a t = ⊎-elim (λ q. absurd (fails e (subst (λ k. T (test k)) q t))) (λ (l : d < suc n). below l) (eq-or-lt-of-le a)
+          where
+            below : d < suc n → d ≤ n
+            below l = omega arith
+
+        i : IsLargest test n (largest test n)
+        i = ih (under m h p)
+
+-- and nothing else is
+pub largest-unique : (test : ℕ → Bool) (n c : ℕ) → IsLargest test n c → largest test n ≡ c
+largest-unique test n c g = go (largest-is test n c (g .bounded) (g .holds))
+  where
+    go : IsLargest test n (largest test n) → largest test n ≡ c
+    go i =
+        let x : largest test n ≤ c = g .most (largest test n) (i .bounded) (i .holds) in
+        let y : c ≤ largest test n = i .most c (g .bounded) (g .holds) in
+        omega arith
+
+-- tests that agree find the same
+pub largest-cong : (f g : ℕ → Bool) (n : ℕ) → ((c : ℕ) → c ≤ n → f c ≡ g c) → largest f n ≡ largest g n
+unfolding largest
+largest-cong f g zero h = refl
+largest-cong f g (suc n) h =
+    ap (λ (b : Bool). elim b [ true ↦ suc n | false ↦ largest f n ]) (h (suc n) (omega arith))
+    ∙ ap (λ (m : ℕ). elim (g (suc n)) [ true ↦ suc n | false ↦ m ]) (largest-cong f g n (λ c l. h c (omega arith)))
+
+-- ---- the lowest
+
+-- r is the lowest of the n numbers from i on that passes, or i + n where none does
+pub record IsLowest (test : ℕ → Bool) (i n r : ℕ) : Type 0 where
+  pub low : i ≤ r
+  pub high : r ≤ i + n
+  pub holds : r < i + n → T (test r)
+  pub least : (j : ℕ) → i ≤ j → T (test j) → r ≤ j ⊎ i + n ≤ j
+
+pub lowestFrom-is : (test : ℕ → Bool) (n i : ℕ) → IsLowest test i n (lowestFrom test n i)
+unfolding lowestFrom
+lowestFrom-is test zero i =
+    record { low = omega arith; high = omega arith; holds = λ h. absurd (omega arith); least = λ j h t. inl h }
+lowestFrom-is test (suc n) i = go (test i) refl (lowestFrom-is test n (suc i))
+  where
+    go : (b : Bool) → test i ≡ b → IsLowest test (suc i) n (lowestFrom test n (suc i))
+        → IsLowest test i (suc n) (elim b [ true ↦ i | false ↦ lowestFrom test n (suc i) ])
+    go true e ih = record { low = omega arith; high = omega arith; holds = λ h. passes e; least = λ j h t. inl h }
+    go false e ih = record {
+      low = omega (arith, ih .low);
+      high = omega (arith, ih .high);
+      holds = λ h. ih .holds (omega arith);
+      least = λ j h t. later j h t (ℕ-discrete i j);
+    }
+      where
+        later : (j : ℕ) → i ≤ j → T (test j) → Dec (i ≡ j) → lowestFrom test n (suc i) ≤ j ⊎ i + suc n ≤ j
+        later j h t (yes d) = absurd (fails e (subst (λ k. T (test k)) (sym d) t))
+        later j h t (no d) = ⊎-elim (λ l. inl l) (λ l. inr (omega arith)) (ih .least j (omega arith) t)
+
+-- where some number j below n passes, the lowest does, and it is no greater
+pub record Lowest (test : ℕ → Bool) (n j r : ℕ) : Type 0 where
+  pub below : r < n
+  pub holds : T (test r)
+  pub least : r ≤ j
+
+pub lowest-is : (test : ℕ → Bool) (n j : ℕ) → j < n → T (test j) → Lowest test n j (lowest test n)
+lowest-is test n j h t = go (lowestFrom-is test n 0)
+  where
+    go : IsLowest test 0 n (lowestFrom test n 0) → Lowest test n j (lowestFrom test n 0)
+    go i =
+        let l : lowestFrom test n 0 ≤ j = ⊎-elim (λ m. m) (λ m. absurd (omega arith)) (i .least j (omega arith) t) in
+        record { below = omega arith; holds = i .holds (omega arith); least = l }
+
+-- the only number below n that passes
+pub lowest-only : (test : ℕ → Bool) (n j : ℕ) → j < n → T (test j) → ((i : ℕ) → i < n → T (test i) → i ≡ j) → lowest test n ≡ j
+lowest-only test n j h t only = let l = lowest-is test n j h t in only (lowest test n) (l .below) (l .holds)
+
+-- ---- all of them
+
+pub all-at : (test : ℕ → Bool) (n : ℕ) → T (allBelow test n) → (i : ℕ) → i < n → T (test i)
+unfolding allBelow
+all-at test zero t i h = absurd (omega arith)
+all-at test (suc n) t i h = go (ℕ-discrete i n) (λ l. all-at test n (and-left (allBelow test n) (test n) t) i l)
+  where
+    go : Dec (i ≡ n) → (i < n → T (test i)) → T (test i)
+    go (yes e) k = subst (λ j. T (test j)) (sym e) (and-right (allBelow test n) (test n) t)
+    go (no d) k = k (omega arith)
+
+pub all-of : (test : ℕ → Bool) (n : ℕ) → ((i : ℕ) → i < n → T (test i)) → T (allBelow test n)
+unfolding allBelow
+all-of test zero h = tt
+all-of test (suc n) h = and-both (allBelow test n) (test n) (all-of test n (λ i l. h i (omega arith))) (h n (omega arith))
+
+-- where not all pass, the lowest that does not pass is below the bound
+pub not-all : (test : ℕ → Bool) (n : ℕ) → (T (allBelow test n) → ⊥) → Lowest (λ i. not (test i)) n n (lowest (λ i. not (test i)) n)
+not-all test n f = go (lowestFrom-is (λ i. not (test i)) n 0)
+  where
+    go : IsLowest (λ i. not (test i)) 0 n (lowestFrom (λ i. not (test i)) n 0)
+        → Lowest (λ i. not (test i)) n n (lowestFrom (λ i. not (test i)) n 0)
+    go i = decide (decLt r n)
+      where
+        r : ℕ
+        r = lowestFrom (λ i. not (test i)) n 0
+
+        each : (r < n → ⊥) → (j : ℕ) → j < n → (b : Bool) → test j ≡ b → T (test j)
+        each d j l true e = passes e
+        each d j l false e =
+            absurd (⊎-elim (λ m. d (omega arith)) (λ m. absurd (omega arith)) (i .least j (omega arith) (subst (λ b. T (not b)) (sym e) tt)))
+
+        decide : Dec (r < n) → Lowest (λ i. not (test i)) n n r
+        decide (yes l) = record { below = l; holds = i .holds (omega arith); least = omega arith }
+        decide (no d) = absurd (f (all-of test n (λ j l. each d j l (test j) refl)))

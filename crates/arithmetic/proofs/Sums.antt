@@ -1,0 +1,149 @@
+-- Sums and counts over the numbers below n: term by term, in another order, and sums of sums.
+use mathlib.Core.Path.{_≡_, refl, sym, _∙_, ap, ap₂, subst}
+use mathlib.Core.Logic.{_≢_}
+use mathlib.Core.Bool.{Bool, cond}
+use Prim.Native.Nat.{ℕ, zero, suc, _+_, _*_, _/_, _%_, _≤_, _<_}
+use native.Mathlib.Nat.{add-zero, add-suc}
+use native.Mathlib.Decide.{ℕ-discrete}
+use native.Mathlib.Omega.{arith}
+use lib.Dec.{T, eqb, eqb→eq, eqb-refl}
+use lib.Arith.{digits-div, digits-mod}
+use Rattle.arithmetic.specs.Sums.{sumBelow, countBelow}
+use Rattle.arithmetic.proofs.Tests.{cond-true, cond-false}
+
+-- ---- sums
+
+pub sum-cong : (n : ℕ) (f g : ℕ → ℕ) → ((i : ℕ) → i < n → f i ≡ g i) → sumBelow f n ≡ sumBelow g n
+unfolding sumBelow
+sum-cong zero f g h = refl
+sum-cong (suc n) f g h = ap₂ _+_ (sum-cong n f g (λ i l. h i (omega arith))) (h n (omega arith))
+
+pub sum-zero : (n : ℕ) → sumBelow (λ i. 0) n ≡ 0
+unfolding sumBelow
+sum-zero zero = refl
+sum-zero (suc n) = omega (arith, sum-zero n)
+
+pub sum-add : (n : ℕ) (f g : ℕ → ℕ) → sumBelow (λ i. f i + g i) n ≡ sumBelow f n + sumBelow g n
+unfolding sumBelow
+sum-add zero f g = refl
+sum-add (suc n) f g = omega (arith, sum-add n f g)
+
+-- n terms of at most b
+pub sum-bounded : (n b : ℕ) (f : ℕ → ℕ) → ((i : ℕ) → i < n → f i ≤ b) → sumBelow f n ≤ n * b
+unfolding sumBelow
+sum-bounded zero b f h = omega arith
+sum-bounded (suc n) b f h = omega (arith, sum-bounded n b f (λ i l. h i (omega arith)), h n (omega arith))
+
+pub sum-swap : (n m : ℕ) (a : ℕ → ℕ → ℕ) → sumBelow (λ i. sumBelow (λ k. a i k) m) n ≡ sumBelow (λ k. sumBelow (λ i. a i k) n) m
+unfolding sumBelow
+sum-swap zero m a = sym (sum-zero m)
+sum-swap (suc n) m a =
+    ap (λ x. x + sumBelow (λ k. a n k) m) (sum-swap n m a) ∙ sym (sum-add m (λ k. sumBelow (λ i. a i k) n) (λ k. a n k))
+
+-- a sum over m + n numbers
+pub sum-split : (f : ℕ → ℕ) (m n : ℕ) → sumBelow f (m + n) ≡ sumBelow f m + sumBelow (λ i. f (m + i)) n
+unfolding sumBelow
+sum-split f m zero = ap (sumBelow f) (add-zero m) ∙ sym (add-zero (sumBelow f m))
+sum-split f m (suc n) = ap (sumBelow f) (add-suc m n) ∙ omega (arith, sum-split f m n)
+
+-- a sum of sums is one sum
+pub sum-flat : (a b : ℕ) (h : ℕ → ℕ → ℕ) → sumBelow (λ i. sumBelow (λ j. h i j) b) a ≡ sumBelow (λ k. h (k / b) (k % b)) (a * b)
+unfolding sumBelow
+sum-flat zero b h = ap (sumBelow (λ k. h (k / b) (k % b))) (nothing b)
+  where
+    nothing : (b : ℕ) → 0 ≡ 0 * b
+    nothing b = omega arith
+sum-flat (suc a) b h =
+    ap₂ _+_ (sum-flat a b h) (sum-cong b (λ j. h a j) (λ j. flat (a * b + j)) (λ j l. sym (ap₂ h (digits-div a l) (digits-mod a l))))
+    ∙ sym (sum-split flat (a * b) b)
+    ∙ ap (sumBelow flat) (more a b)
+  where
+    flat : ℕ → ℕ
+    flat k = h (k / b) (k % b)
+
+    more : (a b : ℕ) → a * b + b ≡ suc a * b
+    more a b = omega arith
+
+-- ---- a sum with one term
+
+-- x where i is j, else 0
+unfoldable pub onlyAt : ℕ → ℕ → ℕ → ℕ
+onlyAt i j x = cond (eqb i j) x 0
+
+pub onlyAt-same : (i x : ℕ) → onlyAt i i x ≡ x
+unfolding onlyAt
+onlyAt-same i x = cond-true (eqb i i) x 0 (eqb-refl i)
+
+pub onlyAt-other : (i j x : ℕ) → i ≢ j → onlyAt i j x ≡ 0
+unfolding onlyAt
+onlyAt-other i j x h = cond-false (eqb i j) x 0 (λ t. h (eqb→eq i j t))
+
+-- none of the numbers below n is j
+sum-none : (n j : ℕ) (g : ℕ → ℕ) → n ≤ j → sumBelow (λ i. onlyAt i j (g i)) n ≡ 0
+unfolding sumBelow
+sum-none zero j g h = refl
+sum-none (suc n) j g h = omega (arith, sum-none n j g (omega arith), onlyAt-other n j (g n) (omega arith))
+
+pub sum-one : (n j : ℕ) (g : ℕ → ℕ) → j < n → sumBelow (λ i. onlyAt i j (g i)) n ≡ g j
+unfolding sumBelow
+sum-one zero j g h = absurd (omega arith)
+sum-one (suc n) j g h = go (λ l. sum-one n j g l) (ℕ-discrete j n)
+  where
+    go : (j < n → sumBelow (λ i. onlyAt i j (g i)) n ≡ g j) → Dec (j ≡ n) → sumBelow (λ i. onlyAt i j (g i)) n + onlyAt n j (g n) ≡ g j
+    go ih (yes e) = rw e (omega (arith, sum-none n n g (omega arith), onlyAt-same n (g n)))
+    go ih (no d) = omega (arith, ih (omega arith), onlyAt-other n j (g n) (λ e. d (sym e)))
+
+-- ---- another order
+
+-- `to` takes the numbers below n to numbers below n, and `back` takes them back
+pub record Bijection (n : ℕ) (to back : ℕ → ℕ) : Type 0 where
+  pub to-below : (i : ℕ) → i < n → to i < n
+  pub back-below : (i : ℕ) → i < n → back i < n
+  pub back-to : (i : ℕ) → i < n → back (to i) ≡ i
+  pub to-back : (i : ℕ) → i < n → to (back i) ≡ i
+
+onlyAt-flip : (n : ℕ) (to back : ℕ → ℕ) → Bijection n to back → (x i k : ℕ) → i < n → k < n → onlyAt k (to i) x ≡ onlyAt i (back k) x
+onlyAt-flip n to back s x i k hi hk = go (ℕ-discrete k (to i))
+  where
+    go : Dec (k ≡ to i) → onlyAt k (to i) x ≡ onlyAt i (back k) x
+    go (yes e) = rw (e, onlyAt-same (to i) x, s .back-to i hi, onlyAt-same i x)
+    go (no d) = onlyAt-other k (to i) x d ∙ sym (onlyAt-other i (back k) x (λ e. d (sym (s .to-back k hk) ∙ sym (ap to e))))
+
+-- a sum is the same in another order
+pub sum-reorder : (n : ℕ) (to back : ℕ → ℕ) → Bijection n to back → (f : ℕ → ℕ) → sumBelow (λ i. f (to i)) n ≡ sumBelow f n
+sum-reorder n to back s f =
+    sum-cong n (λ i. f (to i)) (λ i. sumBelow (λ k. term i k) n) (λ i l. sym (sum-one n (to i) f (s .to-below i l)))
+    ∙ sum-swap n n term
+    ∙ sum-cong n (λ k. sumBelow (λ i. term i k) n) f (λ k l.
+    sum-cong n (λ i. term i k) (λ i. onlyAt i (back k) (f k)) (λ i m. onlyAt-flip n to back s (f k) i k m l)
+    ∙ sum-one n (back k) (λ i. f k) (s .back-below k l))
+  where
+    term : ℕ → ℕ → ℕ
+    term i k = onlyAt k (to i) (f k)
+
+-- ---- counts
+
+pub count-none : (test : ℕ → Bool) (n : ℕ) → ((k : ℕ) → k < n → T (test k) → ⊥) → countBelow test n ≡ 0
+unfolding sumBelow
+count-none test zero h = refl
+count-none test (suc n) h = omega (arith, count-none test n (λ k l. h k (omega arith)), cond-false {X = ℕ} (test n) 1 0 (h n (omega arith)))
+
+-- one passes: the count is 1 or more
+pub count-one : (test : ℕ → Bool) (n r : ℕ) → r < n → T (test r) → 1 ≤ countBelow test n
+unfolding sumBelow
+count-one test zero r h t = absurd (omega arith)
+count-one test (suc n) r h t = go (ℕ-discrete r n) (λ l. count-one test n r l t)
+  where
+    go : Dec (r ≡ n) → (r < n → 1 ≤ countBelow test n) → 1 ≤ countBelow test n + cond (test n) 1 0
+    go (yes e) ih = omega (arith, cond-true {X = ℕ} (test n) 1 0 (subst (λ k. T (test k)) e t))
+    go (no d) ih = omega (arith, ih (omega arith))
+
+-- two pass: it is 2 or more
+pub count-two : (test : ℕ → Bool) (n r k : ℕ) → r < k → k < n → T (test r) → T (test k) → 2 ≤ countBelow test n
+unfolding sumBelow
+count-two test zero r k l h t u = absurd (omega arith)
+count-two test (suc n) r k l h t u = go (ℕ-discrete k n) (λ m. count-two test n r k l m t u)
+  where
+    go : Dec (k ≡ n) → (k < n → 2 ≤ countBelow test n) → 2 ≤ countBelow test n + cond (test n) 1 0
+    go (yes e) ih = omega (arith, cond-true {X = ℕ} (test n) 1 0 (subst (λ j. T (test j)) e u), count-one test n r (omega arith) t)
+    go (no d) ih = omega (arith, ih (omega arith))

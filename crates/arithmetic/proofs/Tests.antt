@@ -1,0 +1,88 @@
+-- Laws of tests: what a passed test says of its parts, and what it chooses.
+use mathlib.Core.Path.{_≡_, refl, sym, subst}
+use mathlib.Core.Logic.{_⊎_, inl, inr}
+use mathlib.Core.Bool.{Bool, true, false, _&&_, _||_, cond}
+use lib.Dec.{T}
+
+pub is-true : (b : Bool) → T b → b ≡ true
+is-true true t = refl
+is-true false t = absurd t
+
+pub passes : {b : Bool} → b ≡ true → T b
+passes e = subst T (sym e) tt
+
+pub fails : {b : Bool} → b ≡ false → T b → ⊥
+fails e t = subst T e t
+
+pub true-not-false : true ≡ false → ⊥
+true-not-false e = subst T e tt
+
+-- ---- conjunctions
+
+pub and-left : (a b : Bool) → T (a && b) → T a
+and-left true b t = tt
+and-left false b t = t
+
+pub and-right : (a b : Bool) → T (a && b) → T b
+and-right true b t = t
+and-right false b t = absurd t
+
+pub and-both : (a b : Bool) → T a → T b → T (a && b)
+and-both true b s t = t
+and-both false b s t = absurd s
+
+pub and-false : (b : Bool) → (b && false) ≡ false
+and-false true = refl
+and-false false = refl
+
+-- three and four tests in a row
+pub record All3 (a b c : Bool) : Type 0 where
+  pub first : T a
+  pub second : T b
+  pub third : T c
+
+pub and3 : (a b c : Bool) → T (a && b && c) → All3 a b c
+and3 a b c t = record {
+  first = and-left a b (and-left (a && b) c t);
+  second = and-right a b (and-left (a && b) c t);
+  third = and-right (a && b) c t;
+}
+
+pub record All4 (a b c d : Bool) : Type 0 where
+  pub first : T a
+  pub second : T b
+  pub third : T c
+  pub fourth : T d
+
+pub and4 : (a b c d : Bool) → T (a && b && c && d) → All4 a b c d
+and4 a b c d t = record {
+  first = front .first;
+  second = front .second;
+  third = front .third;
+  fourth = and-right (a && b && c) d t;
+}
+  where
+    front : All3 a b c
+    front = and3 a b c (and-left (a && b && c) d t)
+
+pub all3 : (a b c : Bool) → T a → T b → T c → T (a && b && c)
+all3 a b c s t u = and-both (a && b) c (and-both a b s t) u
+
+pub or-cases : (a b : Bool) → T (a || b) → T a ⊎ T b
+or-cases true b t = inl tt
+or-cases false b t = inr t
+
+-- ---- what a test chooses
+
+pub cond-true {ℓ} : {X : Type ℓ} (b : Bool) (x y : X) → T b → cond b x y ≡ x
+cond-true true x y t = refl
+cond-true false x y t = absurd t
+
+pub cond-false {ℓ} : {X : Type ℓ} (b : Bool) (x y : X) → (T b → ⊥) → cond b x y ≡ y
+cond-false true x y f = absurd (f tt)
+cond-false false x y f = refl
+
+-- whatever holds of both choices holds of the one that the test makes
+pub cond-both {ℓ} : {X : Type ℓ} (P : X → Type 0) (b : Bool) (x y : X) → (T b → P x) → ((T b → ⊥) → P y) → P (cond b x y)
+cond-both P true x y f g = f tt
+cond-both P false x y f g = g (λ t. t)

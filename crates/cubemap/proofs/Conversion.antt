@@ -1,0 +1,153 @@
+-- A conversion at one place: where it reads, that look-up answers with the very same position, that its value is within the depth, that a nonzero
+-- multiple of a rotation reads the same, and that a cube rotation to a frame of the same shape gives the source's own sample.
+use mathlib.Core.Path.{_≡_, sym, _∙_, ap}
+use mathlib.Core.List.{List}
+use Prim.Native.Nat.{ℕ, _*_, _^_, _≤_, _<_}
+use native.Mathlib.Nat.{mul-pos}
+use lib.Dec.{T}
+use lib.IntN.{ℤ, natAbs}
+use Rattle.cubemap.specs.declared.Format.{Format}
+use Rattle.cubemap.specs.declared.Place.{Place}
+use Rattle.cubemap.specs.declared.Ray.{Ray}
+use Rattle.cubemap.specs.declared.Rotation.{Rotation}
+use Rattle.cubemap.specs.declared.Shape.{Shape}
+use Rattle.cubemap.specs.Interface.{formatOf, samplerOf, accepted, isAccepted}
+use Rattle.cubemap.specs.Frames.{IsPlace, sampleAtPlace}
+use Rattle.cubemap.specs.PlaceToRay.{times, rayOf}
+use Rattle.cubemap.specs.Rotations.{sumOfSquares, rotated, CubeRotation}
+use Rattle.cubemap.specs.RayToPlace.{locate}
+use Rattle.cubemap.specs.Samplers.{sampleFrom}
+use Rattle.cubemap.specs.Checks.{ConvertSettings, targetShape, samplesOK}
+use Rattle.cubemap.specs.Outcomes.{result, ifAccepted, lookUpValues, sourcePosition, valueAt, convertedSample, convertAnswer, lookUpResult}
+use Rattle.cubemap.proofs.FaceCoordinates.{Coordinates, coordinates}
+use Rattle.cubemap.proofs.Locate.{OnFace, locate-on-face, locate-times, middleOf, locate-own-times}
+use Rattle.cubemap.proofs.Layouts.{LayoutHolds, layout-holds}
+use Rattle.cubemap.proofs.Framed.{place-below}
+use Rattle.cubemap.proofs.Passed.{size-range, ConvertPassed, convert-passed, look-up-accepted}
+use Rattle.cubemap.proofs.Samplers.{value-within, value-own}
+use Rattle.cubemap.proofs.Rotations.{sum-positive, multiple, rotated-multiple}
+use Rattle.cubemap.proofs.RotatedRays.{RotatedRay, rotated-ray, place-ray}
+use Rattle.cubemap.proofs.CubeRays.{PlaceOf, ray-cube, cube-place}
+use Rattle.cubemap.proofs.CubeRotations.{permuted, Permutes, cube-permutes, cube-permuted}
+
+-- ---- a nonzero multiple of a rotation leads to the same positions
+
+pub multiple-position : (z : Shape) (k : ℤ) (t : Rotation) (r : Ray) → 0 < natAbs k → sourcePosition z (multiple k t) r ≡ sourcePosition z t r
+unfolding sourcePosition
+multiple-position z k t r h =
+    ap (locate (formatOf (z .format)) (z .size)) (rotated-multiple k t r)
+    ∙ locate-times (formatOf (z .format)) (z .size) (natAbs k * natAbs k) (rotated t r) (mul-pos h h)
+
+-- ---- a conversion that has passed its checks, at a place of the target
+
+module _ (s : ConvertSettings) (n m : ℕ) (source : List ℕ) (c : ConvertPassed s n m source) (P : Place) (p : IsPlace (s .targetSize) P) where
+  -- the target's ray at the place
+  abbrev targetRay : Ray
+  targetRay = rayOf (formatOf (s .targetFormat)) (s .targetSize) P
+
+  -- its rotated ray is not zero and within check 13
+  pub rotated-target-ray : RotatedRay (rotated (s .rotation) targetRay)
+  rotated-target-ray =
+      let z = size-range (s .targetSize) (c .target-size) in
+      rotated-ray (s .rotation) targetRay (c .rotation-in-range) (c .rotation-nonzero)
+      (place-ray (formatOf (s .targetFormat)) (s .targetSize) P (z .low) (z .high) p)
+
+  -- so look-up of that ray answers 0, with the very position that the conversion reads
+  pub looked-up : lookUpResult (s .sourceShape .size) (s .sourceShape .format) (rotated (s .rotation) targetRay)
+      ≡ result accepted (lookUpValues (sourcePosition (s .sourceShape) (s .rotation) targetRay))
+  unfolding lookUpResult sourcePosition
+  looked-up = ap (λ a. ifAccepted a (lookUpValues (sourcePosition (s .sourceShape) (s .rotation) targetRay)))
+      (look-up-accepted (s .sourceShape .size) (s .sourceShape .format) (rotated (s .rotation) targetRay)
+      (record {
+        size = c .source-size;
+        format-code = c .source-format;
+        in-range = rotated-target-ray .in-range;
+        nonzero = rotated-target-ray .nonzero;
+      }))
+
+  -- it lies on a face of the source
+  pub position-on-face : OnFace (s .sourceShape .size) (sourcePosition (s .sourceShape) (s .rotation) targetRay)
+  unfolding sourcePosition
+  position-on-face =
+      locate-on-face (formatOf (s .sourceShape .format)) (s .sourceShape .size) (rotated (s .rotation) targetRay) (rotated-target-ray .nonzero)
+
+  -- and the value there is within the depth
+  pub converted-within : convertedSample s source P < 2 ^ s .sourceShape .depth
+  unfolding convertedSample valueAt
+  converted-within =
+      value-within (samplerOf (s .sampler)) (s .sourceShape .size) (s .sourceShape .depth)
+      (sampleAtPlace source (s .sourceShape .size) (s .sourceLayout)) (sourcePosition (s .sourceShape) (s .rotation) targetRay)
+      (size-range (s .sourceShape .size) (c .source-size) .low) position-on-face
+      (λ Q q. place-below (s .sourceShape) (s .sourceLayout) source Q (layout-holds (s .sourceLayout) (c .source-layout)) (c .samples) q)
+
+-- the same of an accepted conversion
+pub accepted-passed : (s : ConvertSettings) (n m : ℕ) (source : List ℕ) → T (isAccepted (convertAnswer s n m source)) → ConvertPassed s n m source
+unfolding convertAnswer
+accepted-passed s n m source t = convert-passed s n m source t
+
+-- ---- cube rotations at one shape
+
+-- the ray of a place of a frame with this shape
+abbrev rayIn : Shape → Place → Ray
+rayIn z P = rayOf (formatOf (z .format)) (z .size) P
+
+-- the place to which a rotation leads: R·r is S times its ray
+pub record Step (z : Shape) (t : Rotation) (P : Place) : Type 0 where
+  pub to : Place
+  pub ok : IsPlace (z .size) to
+  pub ray : rotated t (rayIn z P) ≡ times (sumOfSquares t) (rayIn z to)
+
+pub cube-step : (z : Shape) (t : Rotation) (P : Place) → z .size ≤ 512 → 0 < sumOfSquares t → CubeRotation t → IsPlace (z .size) P → Step z t P
+cube-step z t P a h c p = record { to = q .place; ok = q .ok; ray = m .is (rayIn z P) ∙ ap (times (sumOfSquares t)) (sym (q .ray)) }
+  where
+    f : Format
+    f = formatOf (z .format)
+
+    m : Permutes t
+    m = cube-permutes t h c
+
+    k : Coordinates f (z .size)
+    k = coordinates f (z .size) a
+
+    q : PlaceOf f (z .size) k (permuted (m .by) (rayIn z P))
+    q = cube-place f (z .size) k (permuted (m .by) (rayIn z P))
+        (cube-permuted f (z .size) k (m .by) (rayIn z P) (ray-cube f (z .size) k P p))
+
+-- where a rotation leads to the place Q, the position that is read is its middle
+pub led-position : (z : Shape) (t : Rotation) (P Q : Place) → z .size ≤ 512 → 0 < sumOfSquares t → IsPlace (z .size) Q
+    → rotated t (rayIn z P) ≡ times (sumOfSquares t) (rayIn z Q) → sourcePosition z t (rayIn z P) ≡ middleOf Q
+unfolding sourcePosition
+led-position z t P Q a h q e =
+    ap (locate (formatOf (z .format)) (z .size)) e ∙ locate-own-times (formatOf (z .format)) (z .size) (sumOfSquares t) Q a h q
+
+-- and the value is the sample there, with either sampler
+pub led-value : (z : Shape) (L bytes : List ℕ) (sampler : ℕ) (t : Rotation) (P Q : Place) → z .size ≤ 512 → 0 < sumOfSquares t → LayoutHolds L
+    → T (samplesOK z bytes) → IsPlace (z .size) Q → rotated t (rayIn z P) ≡ times (sumOfSquares t) (rayIn z Q)
+    → valueAt z L bytes sampler (sourcePosition z t (rayIn z P)) ≡ sampleAtPlace bytes (z .size) L Q
+unfolding valueAt
+led-value z L bytes sampler t P Q a h o b q e =
+    ap (sampleFrom (samplerOf sampler) (z .size) (z .depth) (sampleAtPlace bytes (z .size) L)) (led-position z t P Q a h q e)
+    ∙ value-own (samplerOf sampler) (z .size) (z .depth) (sampleAtPlace bytes (z .size) L) Q q (place-below z L bytes Q o b q)
+
+-- of a conversion that has passed its checks, to a frame of the source's shape
+pub converted-own : (s : ConvertSettings) (n m : ℕ) (source : List ℕ) (P Q : Place) → ConvertPassed s n m source → targetShape s ≡ s .sourceShape
+    → IsPlace (s .sourceShape .size) Q
+    → rotated (s .rotation) (rayIn (s .sourceShape) P) ≡ times (sumOfSquares (s .rotation)) (rayIn (s .sourceShape) Q)
+    → convertedSample s source P ≡ sampleAtPlace source (s .sourceShape .size) (s .sourceLayout) Q
+unfolding convertedSample targetShape
+converted-own s n m source P Q c same q e =
+    ap (λ z. valueAt (s .sourceShape) (s .sourceLayout) source (s .sampler) (sourcePosition (s .sourceShape) (s .rotation) (rayIn z P))) same
+    ∙ led-value (s .sourceShape) (s .sourceLayout) source (s .sampler) (s .rotation) P Q
+    (size-range (s .sourceShape .size) (c .source-size) .high) (sum-positive (s .rotation) (c .rotation-nonzero))
+    (layout-holds (s .sourceLayout) (c .source-layout)) (c .samples) q e
+
+-- so a conversion by a cube rotation to a frame of the source's shape gives, at each place, the source's own sample at the place to which it leads
+pub converted-cube : (s : ConvertSettings) (n m : ℕ) (source : List ℕ) (P : Place) → ConvertPassed s n m source → targetShape s ≡ s .sourceShape
+    → CubeRotation (s .rotation) → (p : IsPlace (s .sourceShape .size) P)
+    → (Q : Step (s .sourceShape) (s .rotation) P)
+    × (convertedSample s source P ≡ sampleAtPlace source (s .sourceShape .size) (s .sourceLayout) (Q .to))
+converted-cube s n m source P c same cube p = (Q, converted-own s n m source P (Q .to) c same (Q .ok) (Q .ray))
+  where
+    Q : Step (s .sourceShape) (s .rotation) P
+    Q = cube-step (s .sourceShape) (s .rotation) P (size-range (s .sourceShape .size) (c .source-size) .high)
+        (sum-positive (s .rotation) (c .rotation-nonzero)) cube p

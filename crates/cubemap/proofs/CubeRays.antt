@@ -1,0 +1,115 @@
+-- Which triples of whole numbers are rays of places: one number is plus or minus the scale, the two others are numbers of columns. No two
+-- places share a ray.
+use mathlib.Core.Path.{_≡_, refl, sym, _∙_, ap, ap₂}
+use Prim.Native.Nat.{ℕ, zero, suc, _-_, _<_}
+use native.Mathlib.Omega.{arith}
+use lib.IntN.{ℤ, pos, negℤ, negℤ-negℤ}
+use Rattle.cubemap.specs.declared.Format.{Format}
+use Rattle.cubemap.specs.declared.Place.{Place}
+use Rattle.cubemap.specs.declared.Ray.{Ray}
+use Rattle.cubemap.specs.Frames.{place, IsPlace}
+use Rattle.cubemap.specs.PlaceToRay.{ray, scale, faceCoordinate, table3, rayOf}
+use Rattle.cubemap.specs.RayToPlace.{faceOf, across, down}
+use Rattle.cubemap.proofs.Indices.{place-eq}
+use Rattle.cubemap.proofs.FaceCoordinates.{Coordinates}
+use Rattle.cubemap.proofs.Faces.{across-table3, down-table3, faceOf-table3}
+use Rattle.cubemap.proofs.Rotations.{ray-eq}
+
+-- the number of a column; and plus or minus the scale
+pub record Inner (format : Format) (A : ℕ) (x : ℤ) : Type 0 where
+  pub at : ℕ
+  pub at-ok : at < A
+  pub is : x ≡ faceCoordinate format A at
+
+pub data Outer (format : Format) (A : ℕ) (x : ℤ) : Type 0 where
+  plus : x ≡ pos (scale format A) → Outer format A x
+  minus : x ≡ negℤ (pos (scale format A)) → Outer format A x
+
+pub data CubeRay (format : Format) (A : ℕ) (v : Ray) : Type 0 where
+  alongX : Outer format A (v .x) → Inner format A (v .y) → Inner format A (v .z) → CubeRay format A v
+  alongY : Inner format A (v .x) → Outer format A (v .y) → Inner format A (v .z) → CubeRay format A v
+  alongZ : Inner format A (v .x) → Inner format A (v .y) → Outer format A (v .z) → CubeRay format A v
+
+-- the opposite of the opposite
+flip : {x y : ℤ} → negℤ x ≡ y → negℤ y ≡ x
+flip {x} e = sym (ap negℤ e) ∙ negℤ-negℤ x
+
+module _ (format : Format) (A : ℕ) (c : Coordinates format A) where
+  -- no two places have the same ray
+  pub ray-apart : (P Q : Place) → IsPlace A P → IsPlace A Q → rayOf format A P ≡ rayOf format A Q → P ≡ Q
+  unfolding rayOf
+  ray-apart P Q p q e = place-eq
+      faces
+      (c .apart (P .column) (Q .column) (p .column-ok) (q .column-ok) (sym (column P) ∙ ap₂ across faces e ∙ column Q))
+      (c .apart (P .row) (Q .row) (p .row-ok) (q .row-ok) (sym (row P) ∙ ap₂ down faces e ∙ row Q))
+    where
+      a : ℕ → ℤ
+      a m = faceCoordinate format A m
+
+      s : ℕ
+      s = scale format A
+
+      face : (R : Place) → IsPlace A R → faceOf (rayOf format A R) ≡ R .face
+      face R r =
+          faceOf-table3 (R .face) s (a (R .column)) (a (R .row)) (r .face-ok) (c .inside (R .column) (r .column-ok))
+          (c .inside (R .row) (r .row-ok))
+
+      faces : P .face ≡ Q .face
+      faces = sym (face P p) ∙ ap faceOf e ∙ face Q q
+
+      column : (R : Place) → across (R .face) (rayOf format A R) ≡ a (R .column)
+      column R = across-table3 (R .face) (pos s) (a (R .column)) (a (R .row))
+
+      row : (R : Place) → down (R .face) (rayOf format A R) ≡ a (R .row)
+      row R = down-table3 (R .face) (pos s) (a (R .column)) (a (R .row))
+
+  inner : (m : ℕ) → m < A → Inner format A (faceCoordinate format A m)
+  inner m h = record { at = m; at-ok = h; is = refl }
+
+  pub inner-neg : {x : ℤ} → Inner format A x → Inner format A (negℤ x)
+  inner-neg i = record { at = A - suc (i .at); at-ok = omega (arith, i .at-ok); is = ap negℤ (i .is) ∙ sym (c .mirror (i .at) (i .at-ok)) }
+
+  pub outer-neg : {x : ℤ} → Outer format A x → Outer format A (negℤ x)
+  outer-neg (plus e) = minus (ap negℤ e)
+  outer-neg (minus e) = plus (ap negℤ e ∙ negℤ-negℤ (pos (scale format A)))
+
+  -- a place's ray is a cube ray
+  pub ray-cube : (P : Place) → IsPlace A P → CubeRay format A (rayOf format A P)
+  unfolding rayOf table3
+  ray-cube P p = go (P .face) (p .face-ok)
+    where
+      m : Inner format A (faceCoordinate format A (P .column))
+      m = inner (P .column) (p .column-ok)
+
+      n : Inner format A (faceCoordinate format A (P .row))
+      n = inner (P .row) (p .row-ok)
+
+      go : (f : ℕ) → f < 6 → CubeRay format A (rayOf format A (place f (P .column) (P .row)))
+      go zero h = alongX (plus refl) (inner-neg n) (inner-neg m)
+      go (suc zero) h = alongX (minus refl) (inner-neg n) m
+      go (suc (suc zero)) h = alongY m (plus refl) n
+      go (suc (suc (suc zero))) h = alongY m (minus refl) (inner-neg n)
+      go (suc (suc (suc (suc zero)))) h = alongZ m (inner-neg n) (plus refl)
+      go (suc (suc (suc (suc (suc zero))))) h = alongZ (inner-neg m) (inner-neg n) (minus refl)
+      go (suc (suc (suc (suc (suc (suc f)))))) h = absurd (omega arith)
+
+  -- and each cube ray is a place's
+  pub record PlaceOf (v : Ray) : Type 0 where
+    pub place : Place
+    pub ok : IsPlace A place
+    pub ray : rayOf format A place ≡ v
+
+  made : (f : ℕ) (v : Ray) {a b : ℤ} → f < 6 → (i : Inner format A a) (j : Inner format A b)
+      → rayOf format A (place f (i .at) (j .at)) ≡ v → PlaceOf v
+  made f v h i j e = record { place = place f (i .at) (j .at); ok = record { face-ok = h; column-ok = i .at-ok; row-ok = j .at-ok }; ray = e }
+
+  pub cube-place : (v : Ray) → CubeRay format A v → PlaceOf v
+  unfolding rayOf table3
+  cube-place v (alongX (plus e) y z) =
+      made 0 v (omega arith) (inner-neg z) (inner-neg y) (ray-eq (sym e) (flip (inner-neg y .is)) (flip (inner-neg z .is)))
+  cube-place v (alongX (minus e) y z) = made 1 v (omega arith) z (inner-neg y) (ray-eq (sym e) (flip (inner-neg y .is)) (sym (z .is)))
+  cube-place v (alongY x (plus e) z) = made 2 v (omega arith) x z (ray-eq (sym (x .is)) (sym e) (sym (z .is)))
+  cube-place v (alongY x (minus e) z) = made 3 v (omega arith) x (inner-neg z) (ray-eq (sym (x .is)) (sym e) (flip (inner-neg z .is)))
+  cube-place v (alongZ x y (plus e)) = made 4 v (omega arith) x (inner-neg y) (ray-eq (sym (x .is)) (flip (inner-neg y .is)) (sym e))
+  cube-place v (alongZ x y (minus e)) =
+      made 5 v (omega arith) (inner-neg x) (inner-neg y) (ray-eq (flip (inner-neg x .is)) (flip (inner-neg y .is)) (sym e))

@@ -1,0 +1,93 @@
+-- A sample of `framed` is what was framed; a frame whose bytes are given place by place; and which frames pass checks 10 and 11.
+use mathlib.Core.Path.{_≡_, refl, sym, _∙_, ap, ap₂}
+use mathlib.Core.List.{List, [], _∷_, _++_}
+use Prim.Native.Nat.{ℕ, zero, suc, _+_, _*_, _^_, _<_}
+use native.Mathlib.Decide.{ℕ-discrete}
+use native.Mathlib.Omega.{arith}
+use lib.Dec.{T, ltb→lt, lt→ltb}
+use lib.ListN.{length, length-append, getD, List·getD-append}
+use Rattle.arithmetic.proofs.Searches.{all-at, all-of}
+use Rattle.cubemap.specs.declared.Place.{Place}
+use Rattle.cubemap.specs.declared.Shape.{Shape}
+use Rattle.cubemap.specs.Interface.{littleEndian}
+use Rattle.cubemap.specs.Frames.{IsPlace, sampleAt, framed, planeSamples, samplesIn, index, placeAt, sampleAtPlace}
+use Rattle.cubemap.specs.Checks.{sampleOK, samplesOK}
+use Rattle.cubemap.proofs.Layouts.{LayoutHolds}
+use Rattle.cubemap.proofs.Indices.{index-ok, placeAt-index, placeAt-ok}
+
+pub framed-length : (f : ℕ → ℕ) (n : ℕ) → length (framed f n) ≡ 2 * n
+unfolding framed
+framed-length f zero = refl
+framed-length f (suc n) = length-append (framed f n) (littleEndian 2 (f n)) ∙ omega (arith, framed-length f n)
+
+pub framed-cong : (f g : ℕ → ℕ) (n : ℕ) → ((i : ℕ) → i < n → f i ≡ g i) → framed f n ≡ framed g n
+unfolding framed
+framed-cong f g zero h = refl
+framed-cong f g (suc n) h = ap₂ (λ l x. l ++ littleEndian 2 x) (framed-cong f g n (λ i l. h i (omega arith))) (h n (omega arith))
+
+-- ---- samples of bytes with other bytes behind them
+
+pub sample-front : (x y : List ℕ) (n i : ℕ) → length x ≡ 2 * n → i < n → sampleAt (x ++ y) i ≡ sampleAt x i
+sample-front x y n i e h =
+    ap₂ (λ a b. a + 256 * b) (List·getD-append x y 0 (2 * i) (omega arith)) (List·getD-append x y 0 (2 * i + 1) (omega arith))
+
+getD-behind : (x y : List ℕ) (j k : ℕ) → j ≡ length x + k → getD (x ++ y) j 0 ≡ getD y k 0
+getD-behind [] y j k e = ap (λ z. getD y z 0) (omega arith)
+getD-behind (a ∷ x) y zero k e = absurd (omega arith)
+getD-behind (a ∷ x) y (suc j) k e = getD-behind x y j k (omega arith)
+
+pub sample-behind : (x y : List ℕ) (n i : ℕ) → length x ≡ 2 * n → sampleAt (x ++ y) (n + i) ≡ sampleAt y i
+sample-behind x y n i e =
+    ap₂ (λ a b. a + 256 * b) (getD-behind x y (2 * (n + i)) (2 * i) (omega arith)) (getD-behind x y (2 * (n + i) + 1) (2 * i + 1) (omega arith))
+
+-- two bytes hold what is below 65,536
+sample-bytes : (v : ℕ) → v < 65536 → sampleAt (littleEndian 2 v) 0 ≡ v
+sample-bytes v h = omega arith
+
+-- ---- a sample of `framed` is what was framed
+
+pub sample-framed : (f : ℕ → ℕ) (n i : ℕ) → ((j : ℕ) → j < n → f j < 65536) → i < n → sampleAt (framed f n) i ≡ f i
+unfolding framed
+sample-framed f zero i b h = absurd (omega arith)
+sample-framed f (suc n) i b h = go (ℕ-discrete i n) (λ l. sample-framed f n i (λ j m. b j (omega arith)) l)
+  where
+    go : Dec (i ≡ n) → (i < n → sampleAt (framed f n) i ≡ f i) → sampleAt (framed f n ++ littleEndian 2 (f n)) i ≡ f i
+    go (yes e) ih =
+        ap (sampleAt (framed f n ++ littleEndian 2 (f n))) (e ∙ last n)
+        ∙ sample-behind (framed f n) (littleEndian 2 (f n)) n 0 (framed-length f n) ∙ sample-bytes (f n) (b n (omega arith)) ∙ ap f (sym e)
+      where
+        last : (n : ℕ) → n ≡ n + 0
+        last n = omega arith
+    go (no d) ih = sample-front (framed f n) (littleEndian 2 (f n)) n i (framed-length f n) (omega arith) ∙ ih (omega arith)
+
+-- ---- the bytes of a plane of face size A in the layout L, with the sample g P at the place P
+
+abbrev pub painted : ℕ → List ℕ → (Place → ℕ) → List ℕ
+painted A L g = framed (λ i. g (placeAt A L i)) (planeSamples A)
+
+module _ (A : ℕ) (L : List ℕ) (o : LayoutHolds L) where
+  pub sample-painted : (g : Place → ℕ) (P : Place) → ((Q : Place) → IsPlace A Q → g Q < 65536) → IsPlace A P
+      → sampleAtPlace (painted A L g) A L P ≡ g P
+  sample-painted g P b p =
+      sample-framed (λ i. g (placeAt A L i)) (planeSamples A) (index A L P) (λ i l. b (placeAt A L i) (placeAt-ok A L o i l)) (index-ok A L o P p)
+      ∙ ap g (placeAt-index A L o P p)
+
+  pub painted-cong : (f g : Place → ℕ) → ((P : Place) → IsPlace A P → f P ≡ g P) → painted A L f ≡ painted A L g
+  painted-cong f g h =
+      framed-cong (λ i. f (placeAt A L i)) (λ i. g (placeAt A L i)) (planeSamples A) (λ i l. h (placeAt A L i) (placeAt-ok A L o i l))
+
+-- ---- checks 10 and 11
+
+pub samples-below : (z : Shape) (bytes : List ℕ) → T (samplesOK z bytes) → (i : ℕ) → i < samplesIn z → sampleAt bytes i < 2 ^ z .depth
+unfolding samplesOK
+samples-below z bytes t i h = ltb→lt (sampleAt bytes i) (2 ^ z .depth) (all-at (sampleOK z bytes) (samplesIn z) t i h)
+
+pub below-samples : (z : Shape) (bytes : List ℕ) → ((i : ℕ) → i < samplesIn z → sampleAt bytes i < 2 ^ z .depth) → T (samplesOK z bytes)
+unfolding samplesOK
+below-samples z bytes h = all-of (sampleOK z bytes) (samplesIn z) (λ i l. lt→ltb (sampleAt bytes i) (2 ^ z .depth) (h i l))
+
+-- at a place of a frame with a layout that passes check 5
+pub place-below : (z : Shape) (L bytes : List ℕ) (P : Place) → LayoutHolds L → T (samplesOK z bytes) → IsPlace (z .size) P
+    → sampleAtPlace bytes (z .size) L P < 2 ^ z .depth
+unfolding samplesIn
+place-below z L bytes P o t p = samples-below z bytes t (index (z .size) L P) (index-ok (z .size) L o P p)

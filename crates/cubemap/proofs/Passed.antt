@@ -1,0 +1,169 @@
+-- What an accepted call has passed: each list of checks inverted once, into a record with named fields.
+use mathlib.Core.Path.{_≡_, refl}
+use mathlib.Core.Bool.{Bool, true, false, _&&_, not, cond}
+use mathlib.Core.List.{List, [], _∷_, _++_}
+use Prim.Native.Nat.{ℕ, _≤_}
+use lib.Dec.{T, eqb, leb, leb→le, T-not}
+use lib.ListN.{length}
+use Rattle.arithmetic.proofs.Tests.{and-left, and-right, All3, and3}
+use Rattle.cubemap.specs.declared.Ray.{Ray}
+use Rattle.cubemap.specs.Interface.{answer, accepted, isAccepted}
+use Rattle.cubemap.specs.Checks.{ConvertSettings, ScoreSettings, targetShape, Check, firstFailed, sizeOK, depthOK, codeOK, layoutOK}
+use Rattle.cubemap.specs.Checks.{rotationInRange, rotationNonzero, lengthOK, samplesOK, rayInRange, rayNonzero}
+use Rattle.cubemap.specs.Checks.{sizeChecks, settingChecks, lengthChecks, beforeSamples, convertChecks, scoreChecks, lookUpChecks}
+
+-- ---- lists of checks
+
+abbrev pub AllHold : List Check → Type 0
+AllHold [] = Unit {0}
+AllHold (c ∷ cs) = T (c .holds) × AllHold cs
+
+-- no check has the number 0
+abbrev pub numbered : List Check → Bool
+numbered [] = true
+numbered (c ∷ cs) = not (eqb (c .number) 0) && numbered cs
+
+-- an accepted call has passed each check
+pub all-hold : (cs : List Check) → T (numbered cs) → T (isAccepted (firstFailed cs)) → AllHold cs
+unfolding firstFailed
+all-hold [] n t = tt
+all-hold (c ∷ cs) n t = go (c .holds) t (λ u. all-hold cs (and-right (not (eqb (c .number) 0)) (numbered cs) n) u)
+  where
+    go : (b : Bool) → T (isAccepted (cond b (firstFailed cs) (answer (c .number) (c .index)))) → (T (isAccepted (firstFailed cs)) → AllHold cs)
+        → T b × AllHold cs
+    go true t ih = (tt, ih t)
+    go false t ih = absurd (T-not (eqb (c .number) 0) (and-left (not (eqb (c .number) 0)) (numbered cs) n) t)
+
+-- and a call that passes each check is accepted, with index 0
+pub holding : (cs : List Check) → AllHold cs → firstFailed cs ≡ accepted
+unfolding firstFailed
+holding [] h = refl
+holding (c ∷ cs) h = go (c .holds) (h .0) (holding cs (h .1))
+  where
+    go : (b : Bool) → T b → firstFailed cs ≡ accepted → cond b (firstFailed cs) (answer (c .number) (c .index)) ≡ accepted
+    go true t ih = ih
+    go false t ih = absurd t
+
+-- checks in front of others: the first that fails of them, else that of the others
+pub firstFailed-append : (xs ys : List Check) → T (numbered xs)
+    → firstFailed (xs ++ ys) ≡ cond (isAccepted (firstFailed xs)) (firstFailed ys) (firstFailed xs)
+unfolding firstFailed
+firstFailed-append [] ys n = refl
+firstFailed-append (c ∷ xs) ys n = go (c .holds) (firstFailed-append xs ys (and-right (not (eqb (c .number) 0)) (numbered xs) n))
+  where
+    refused : (b : Bool) → T (not b) → answer (c .number) (c .index) ≡ cond b (firstFailed ys) (answer (c .number) (c .index))
+    refused true m = absurd m
+    refused false m = refl
+
+    go : (b : Bool) → firstFailed (xs ++ ys) ≡ cond (isAccepted (firstFailed xs)) (firstFailed ys) (firstFailed xs)
+        → cond b (firstFailed (xs ++ ys)) (answer (c .number) (c .index))
+        ≡ cond (isAccepted (cond b (firstFailed xs) (answer (c .number) (c .index))))
+        (firstFailed ys) (cond b (firstFailed xs) (answer (c .number) (c .index)))
+    go true ih = ih
+    go false ih = refused (eqb (c .number) 0) (and-left (not (eqb (c .number) 0)) (numbered xs) n)
+
+-- ---- the numbers of a check
+
+-- 1, 2
+pub record SizeRange (A : ℕ) : Type 0 where
+  pub low : 1 ≤ A
+  pub high : A ≤ 512
+
+pub size-range : (A : ℕ) → T (sizeOK A) → SizeRange A
+unfolding sizeOK
+size-range A t = record { low = leb→le 1 A (and-left (leb 1 A) (leb A 512) t); high = leb→le A 512 (and-right (leb 1 A) (leb A 512) t) }
+
+-- 3
+pub record DepthRange (D : ℕ) : Type 0 where
+  pub low : 8 ≤ D
+  pub high : D ≤ 12
+
+pub depth-range : (D : ℕ) → T (depthOK D) → DepthRange D
+unfolding depthOK
+depth-range D t = record { low = leb→le 8 D (and-left (leb 8 D) (leb D 12) t); high = leb→le D 12 (and-right (leb 8 D) (leb D 12) t) }
+
+-- ---- convert
+
+pub record ConvertPassed (s : ConvertSettings) (sourceLength targetLength : ℕ) (source : List ℕ) : Type 0 where
+  pub source-size : T (sizeOK (s .sourceShape .size))
+  pub target-size : T (sizeOK (s .targetSize))
+  pub depth : T (depthOK (s .sourceShape .depth))
+  pub source-format : T (codeOK (s .sourceShape .format))
+  pub target-format : T (codeOK (s .targetFormat))
+  pub sampler : T (codeOK (s .sampler))
+  pub source-layout : T (layoutOK (s .sourceLayout))
+  pub target-layout : T (layoutOK (s .targetLayout))
+  pub rotation-in-range : T (rotationInRange (s .rotation))
+  pub rotation-nonzero : T (rotationNonzero (s .rotation))
+  pub source-length : T (lengthOK (s .sourceShape) sourceLength)
+  pub target-length : T (lengthOK (targetShape s) targetLength)
+  pub samples : T (samplesOK (s .sourceShape) source)
+
+pub convert-passed : (s : ConvertSettings) (n m : ℕ) (source : List ℕ) → T (isAccepted (firstFailed (convertChecks s n m source)))
+    → ConvertPassed s n m source
+unfolding convertChecks beforeSamples sizeChecks settingChecks lengthChecks
+convert-passed s n m source t = go (all-hold (convertChecks s n m source) tt t)
+  where
+    go : AllHold (convertChecks s n m source) → ConvertPassed s n m source
+    go (q1, (q2, (q3, (q4, (q5, (q6, (q7, (q8, (q9, (q10, end)))))))))) = record {
+      source-size = q1;
+      target-size = q2;
+      depth = q3;
+      source-format = codes .first;
+      target-format = codes .second;
+      sampler = codes .third;
+      source-layout = and-left (layoutOK (s .sourceLayout)) (layoutOK (s .targetLayout)) q5;
+      target-layout = and-right (layoutOK (s .sourceLayout)) (layoutOK (s .targetLayout)) q5;
+      rotation-in-range = q6;
+      rotation-nonzero = q7;
+      source-length = q8;
+      target-length = q9;
+      samples = q10;
+    }
+      where
+        codes : All3 (codeOK (s .sourceShape .format)) (codeOK (s .targetFormat)) (codeOK (s .sampler))
+        codes = and3 (codeOK (s .sourceShape .format)) (codeOK (s .targetFormat)) (codeOK (s .sampler)) q4
+
+-- ---- score
+
+pub record ScorePassed (s : ScoreSettings) (first second : List ℕ) : Type 0 where
+  pub size : T (sizeOK (s .shape .size))
+  pub depth : T (depthOK (s .shape .depth))
+  pub format : T (codeOK (s .shape .format))
+  pub first-layout : T (layoutOK (s .firstLayout))
+  pub second-layout : T (layoutOK (s .secondLayout))
+  pub first-length : T (lengthOK (s .shape) (length first))
+  pub second-length : T (lengthOK (s .shape) (length second))
+  pub first-samples : T (samplesOK (s .shape) first)
+  pub second-samples : T (samplesOK (s .shape) second)
+
+pub score-passed : (s : ScoreSettings) (first second : List ℕ) → T (isAccepted (firstFailed (scoreChecks s first second)))
+    → ScorePassed s first second
+unfolding scoreChecks
+score-passed s first second t = go (all-hold (scoreChecks s first second) tt t)
+  where
+    go : AllHold (scoreChecks s first second) → ScorePassed s first second
+    go (q1, (q3, (q4, (q5, (q8, (q9, (q10, (q11, end)))))))) = record {
+      size = q1;
+      depth = q3;
+      format = q4;
+      first-layout = and-left (layoutOK (s .firstLayout)) (layoutOK (s .secondLayout)) q5;
+      second-layout = and-right (layoutOK (s .firstLayout)) (layoutOK (s .secondLayout)) q5;
+      first-length = q8;
+      second-length = q9;
+      first-samples = q10;
+      second-samples = q11;
+    }
+
+-- ---- look-up
+
+pub record LookUpPassed (A format : ℕ) (v : Ray) : Type 0 where
+  pub size : T (sizeOK A)
+  pub format-code : T (codeOK format)
+  pub in-range : T (rayInRange v)
+  pub nonzero : T (rayNonzero v)
+
+-- these four are all that a look-up asks
+pub look-up-accepted : (A format : ℕ) (v : Ray) → LookUpPassed A format v → firstFailed (lookUpChecks A format v) ≡ accepted
+unfolding lookUpChecks
+look-up-accepted A format v p = holding (lookUpChecks A format v) (p .size, (p .format-code, (p .in-range, (p .nonzero, tt))))

@@ -1,0 +1,265 @@
+-- The paper's T, a position in 64ths of a sample, one proof for both formats: it is 64 times the exact position rounded to the nearest whole
+-- number, it lies within half a 64th, it runs from −32 to 64A−32, and a column's own number gives 64 times the column.
+use mathlib.Core.Path.{_≡_, refl, sym, _∙_, ap, ap₂, subst}
+use mathlib.Core.List.{[], _∷_}
+use Prim.Native.Nat.{ℕ, suc, _+_, _*_, _-_, _/_, _%_, _≤_, _<_}
+use native.Mathlib.Nat.{div-add-mod', mod-lt, mul-pos, mul-le-mul-left, le-of-suc-le-suc, div-lt-iff-lt-mul, le-trans, le-of-eq}
+use native.Mathlib.Omega.{arith}
+use lib.IntN.{ℤ, pos, negsuc, natAbs, _+ℤ_, _-ℤ_, _*ℤ_, +ℤ-invr}
+use lib.Signed.{_≤ℤ_}
+use Rattle.arithmetic.specs.Integers.{withSignOf}
+use Rattle.arithmetic.proofs.Integers.{by-combination, neg-mul}
+use Rattle.arithmetic.proofs.Sizes.{pos-inj, natAbs-mul, natAbs-neg, pos-sub, difference-small, Lifted, lifted, own-sign, sign-size}
+use Rattle.arithmetic.proofs.Ring.{Expr, var, con, _⊕_, _⊗_, _⊝_, ⊖, solve}
+use Rattle.arithmetic.proofs.Order.{le-intro, le-elim}
+use Rattle.arithmetic.proofs.Floors.{floor-unique}
+use Rattle.cubemap.specs.declared.Format.{Format}
+use Rattle.cubemap.specs.PlaceToRay.{N, fromCentre, curve, scale, faceCoordinate}
+use Rattle.cubemap.specs.RayToPlace.{Ratio, ratio, adjusted, exactPosition, roundHalfUp, position64}
+use Rattle.cubemap.proofs.Rounding.{IsRounded, rounded-is, rounded-only, rounded-error, rounded-near, rounded-times}
+use Rattle.cubemap.proofs.Curves.{bent, bent-rises, bent-end, curve-is, curve-next}
+use Rattle.cubemap.proofs.FaceCoordinates.{fromCentre-inside}
+
+-- T of a ratio g
+abbrev positionOf : ℕ → Ratio → ℤ
+positionOf A g = roundHalfUp (pos 64 *ℤ exactPosition A g .numerator) (exactPosition A g .denominator)
+
+-- ---- g
+
+-- the exact position of x / d
+abbrev pub exactOf : Format → ℕ → ℤ → ℕ → Ratio
+exactOf format A x d = exactPosition A (adjusted format x d)
+
+pub adjusted-positive : (format : Format) (x : ℤ) (d : ℕ) → 0 < d → 0 < adjusted format x d .denominator
+unfolding adjusted
+adjusted-positive Format.Cmp x d h = h
+adjusted-positive Format.Acp x d h = mul-pos (mul-pos {m = 25} (omega arith) h) h
+
+-- the size of equation 14's numerator
+acp-size : (x : ℤ) (d : ℕ) → natAbs x ≤ d → natAbs (x *ℤ (pos (34 * d) -ℤ pos (9 * natAbs x))) ≡ bent d (natAbs x)
+acp-size x d h =
+    natAbs-mul x (pos (34 * d) -ℤ pos (9 * natAbs x)) ∙ ap (λ z. natAbs x * natAbs z) (pos-sub (34 * d) (9 * natAbs x) (omega arith))
+
+-- |g| ≤ 1
+pub adjusted-small : (format : Format) (x : ℤ) (d : ℕ) → natAbs x ≤ d → natAbs (adjusted format x d .numerator) ≤ adjusted format x d .denominator
+unfolding adjusted
+adjusted-small Format.Cmp x d h = h
+adjusted-small Format.Acp x d h =
+    subst (λ m. m ≤ 25 * d * d) (sym (acp-size x d h)) (le-trans (bent-rises d (natAbs x) d h (omega arith)) (le-of-eq (bent-end d)))
+
+-- ---- rounding
+
+-- 2·T·den ≤ 2·64·num + den < 2·T·den + 2·den, with num / den the exact position
+pub position-is : (format : Format) (A : ℕ) (x : ℤ) (d : ℕ) → 0 < d
+    → IsRounded (pos 64 *ℤ exactOf format A x d .numerator) (exactOf format A x d .denominator) (position64 format A x d)
+unfolding position64
+position-is format A x d h =
+    let p = adjusted-positive format x d h in
+    rounded-is (pos 64 *ℤ exactOf format A x d .numerator) (exactOf format A x d .denominator) (omega arith)
+
+-- and nothing else is so
+pub position-only : (format : Format) (A : ℕ) (x : ℤ) (d : ℕ) (t : ℤ)
+    → IsRounded (pos 64 *ℤ exactOf format A x d .numerator) (exactOf format A x d .denominator) t → position64 format A x d ≡ t
+unfolding position64
+position-only format A x d t g = rounded-only (pos 64 *ℤ exactOf format A x d .numerator) (exactOf format A x d .denominator) t g
+
+-- "so T/64 lies within 1/128 of the exact position": |2·(64·num − T·den)| ≤ den
+pub position-error : (format : Format) (A : ℕ) (x : ℤ) (d : ℕ) → 0 < d
+    → natAbs (pos 2 *ℤ (pos 64 *ℤ exactOf format A x d .numerator -ℤ position64 format A x d *ℤ pos (exactOf format A x d .denominator)))
+    ≤ exactOf format A x d .denominator
+unfolding position64
+position-error format A x d h =
+    let p = adjusted-positive format x d h in
+    rounded-error (pos 64 *ℤ exactOf format A x d .numerator) (exactOf format A x d .denominator) (omega arith)
+
+-- ---- "T runs from −32 to 64A−32."
+
+pub record InRange (A : ℕ) (t : ℤ) : Type 0 where
+  pub low : negsuc 31 ≤ℤ t
+  pub high : t ≤ℤ (pos (64 * A) -ℤ pos 32)
+
+-- T + 32 from the numerator of g with its denominator added: a division of natural numbers
+lifted-position : (A s e : ℕ) (n : ℤ) → 0 < e → n +ℤ pos e ≡ pos s
+    → positionOf A (ratio n e) ≡ pos ((2 * (32 * A * s) + e) / (2 * e)) -ℤ pos 32
+lifted-position A s e n h g =
+    let u : ℕ = 2 * (32 * A * s) + e in
+    let q : ℕ = u / (2 * e) in
+    let r : ℕ = u % (2 * e) in
+    let l : r < 2 * e = mod-lt u (omega arith) in
+    let D : Expr = con (pos 2) ⊗ var 2 in
+    floor-unique (pos 2 *ℤ (pos 64 *ℤ (pos A *ℤ (n +ℤ pos e) -ℤ pos e)) +ℤ pos (2 * e)) (pos q -ℤ pos 32) (2 * (2 * e)) (2 * r) (omega arith)
+    (ap (λ z. pos 2 *ℤ (pos 64 *ℤ (pos A *ℤ z -ℤ pos e)) +ℤ pos (2 * e)) g
+    ∙ by-combination (pos 2 *ℤ (pos 64 *ℤ (pos A *ℤ pos s -ℤ pos e)) +ℤ pos (2 * e)) ((pos q -ℤ pos 32) *ℤ pos (2 * (2 * e)) +ℤ pos (2 * r))
+    (pos (2 * (q * (2 * e) + r))) (pos (2 * u)) (ap (λ m. pos (2 * m)) (div-add-mod' u (2 * e)))
+    (solve (pos A ∷ pos s ∷ pos e ∷ pos q ∷ pos r ∷ [])
+    (con (pos 2) ⊗ (con (pos 64) ⊗ (var 0 ⊗ var 1 ⊝ var 2)) ⊕ D ⊕ con (pos 2) ⊗ (var 3 ⊗ D ⊕ var 4))
+    ((var 3 ⊝ con (pos 32)) ⊗ (con (pos 2) ⊗ D) ⊕ con (pos 2) ⊗ var 4 ⊕ con (pos 2) ⊗ (con (pos 2) ⊗ (con (pos 32) ⊗ var 0 ⊗ var 1) ⊕ var 2))
+    tt))
+
+-- T = q − 32 with q from 0 to 64A
+pub record Shifted (A : ℕ) (t : ℤ) : Type 0 where
+  pub shift : ℕ
+  pub is : t ≡ pos shift -ℤ pos 32
+  pub bounded : shift ≤ 64 * A
+
+pub position-shifted : (format : Format) (A : ℕ) (x : ℤ) (d : ℕ) → natAbs x ≤ d → 0 < d → Shifted A (position64 format A x d)
+unfolding position64
+position-shifted format A x d h p = record {
+  shift = (2 * (32 * A * w .lift) + e) / (2 * e);
+  is = lifted-position A (w .lift) e n (adjusted-positive format x d p) (w .is);
+  bounded = most (w .lift) (omega (arith, w .high, adjusted-small format x d h));
+}
+  where
+    n : ℤ
+    n = adjusted format x d .numerator
+
+    e : ℕ
+    e = adjusted format x d .denominator
+
+    w : Lifted n e
+    w = lifted n e (adjusted-small format x d h)
+
+    most : (s : ℕ) → s ≤ 2 * e → (2 * (32 * A * s) + e) / (2 * e) ≤ 64 * A
+    most s l =
+        let a = adjusted-positive format x d p in
+        let b = mul-le-mul-left (64 * A) l in
+        le-of-suc-le-suc (div-lt-iff-lt-mul {k = 2 * e} {y = suc (64 * A)} (omega arith) .1 (omega arith))
+
+pub position-range : (format : Format) (A : ℕ) (x : ℤ) (d : ℕ) → natAbs x ≤ d → 0 < d → InRange A (position64 format A x d)
+position-range format A x d h p = go (position64 format A x d) (position-shifted format A x d h p)
+  where
+    go : (t : ℤ) → Shifted A t → InRange A t
+    go t w =
+        let q : ℕ = w .shift in
+        let l = w .bounded in
+        let e : 64 * A ≡ q + (64 * A - q) = omega arith in
+        record {
+          low = le-intro (negsuc 31) t q (w .is ∙ solve (pos q ∷ []) (var 0 ⊝ con (pos 32)) (con (negsuc 31) ⊕ var 0) tt);
+          high = le-intro t (pos (64 * A) -ℤ pos 32) (64 * A - q)
+              (ap (λ m. pos m -ℤ pos 32) e
+              ∙ solve (pos q ∷ pos (64 * A - q) ∷ []) (var 0 ⊕ var 1 ⊝ con (pos 32)) (var 0 ⊝ con (pos 32) ⊕ var 1) tt
+              ∙ ap (λ z. z +ℤ pos (64 * A - q)) (sym (w .is)));
+        }
+
+-- the other way: what is in range is q − 32
+pub in-range-shifted : (A : ℕ) (t : ℤ) → InRange A t → Shifted A t
+in-range-shifted A t g =
+    let p = le-elim (negsuc 31) t (g .low) in
+    let w = le-elim t (pos (64 * A) -ℤ pos 32) (g .high) in
+    let e : t ≡ pos (p .0) -ℤ pos 32 = p .1 ∙ solve (pos (p .0) ∷ []) (con (negsuc 31) ⊕ var 0) (var 0 ⊝ con (pos 32)) tt in
+    let f : 64 * A ≡ p .0 + w .0 = pos-inj (64 * A) (p .0 + w .0)
+    (solve (pos (64 * A) ∷ []) (var 0) (var 0 ⊝ con (pos 32) ⊕ con (pos 32)) tt
+    ∙ ap (λ z. z +ℤ pos 32) (w .1 ∙ ap (λ z. z +ℤ pos (w .0)) e)
+    ∙ solve (pos (p .0) ∷ pos (w .0) ∷ []) (var 0 ⊝ con (pos 32) ⊕ var 1 ⊕ con (pos 32)) (var 0 ⊕ var 1) tt) in
+    record { shift = p .0; is = e; bounded = omega arith }
+
+-- ---- a multiple of x and d
+
+positionOf-times : (A k : ℕ) (n : ℤ) (d : ℕ) → 0 < k → positionOf A (ratio (pos k *ℤ n) (k * d)) ≡ positionOf A (ratio n d)
+positionOf-times A k n d h = ap₂ roundHalfUp numerators denominators ∙ rounded-times k (top n (pos d)) (2 * d) h
+  where
+    top : ℤ → ℤ → ℤ
+    top n d = pos 64 *ℤ (pos A *ℤ (n +ℤ d) -ℤ d)
+
+    topE : Expr → Expr → Expr
+    topE n d = con (pos 64) ⊗ (var 1 ⊗ (n ⊕ d) ⊝ d)
+
+    numerators : top (pos k *ℤ n) (pos (k * d)) ≡ pos k *ℤ top n (pos d)
+    numerators = solve (pos k ∷ pos A ∷ n ∷ pos d ∷ []) (topE (var 0 ⊗ var 2) (var 0 ⊗ var 3)) (var 0 ⊗ topE (var 2) (var 3)) tt
+
+    denominators : 2 * (k * d) ≡ k * (2 * d)
+    denominators = omega arith
+
+pub position-times : (format : Format) (A k : ℕ) (x : ℤ) (d : ℕ) → 0 < k → position64 format A (pos k *ℤ x) (k * d) ≡ position64 format A x d
+unfolding position64 adjusted
+position-times Format.Cmp A k x d h = positionOf-times A k x d h
+position-times Format.Acp A k x d h =
+    ap₂ (λ n e. positionOf A (ratio n e)) numerators denominators
+    ∙ positionOf-times A (k * k) (x *ℤ (pos (34 * d) -ℤ pos (9 * natAbs x))) (25 * d * d) (mul-pos h h)
+  where
+    numerators : pos k *ℤ x *ℤ (pos (34 * (k * d)) -ℤ pos (9 * natAbs (pos k *ℤ x)))
+        ≡ pos (k * k) *ℤ (x *ℤ (pos (34 * d) -ℤ pos (9 * natAbs x)))
+    numerators =
+        ap (λ m. pos k *ℤ x *ℤ (pos (34 * (k * d)) -ℤ pos (9 * m))) (natAbs-mul (pos k) x)
+        ∙ solve (pos k ∷ x ∷ pos d ∷ pos (natAbs x) ∷ [])
+        (var 0 ⊗ var 1 ⊗ (con (pos 34) ⊗ (var 0 ⊗ var 2) ⊝ con (pos 9) ⊗ (var 0 ⊗ var 3)))
+        (var 0 ⊗ var 0 ⊗ (var 1 ⊗ (con (pos 34) ⊗ var 2 ⊝ con (pos 9) ⊗ var 3))) tt
+
+    denominators : 25 * (k * d) * (k * d) ≡ k * k * (25 * d * d)
+    denominators = omega arith
+
+-- ---- a column's own number: 64 times the column, exactly in CMP, and within the rounding in ACP
+
+-- how far 64 times the exact position is from 64·m: 64·(A·num − den·p), of den / 1
+off-by : (A m : ℕ) (n : ℤ) (e : ℕ)
+    → pos 64 *ℤ exactPosition A (ratio n e) .numerator -ℤ pos (64 * m) *ℤ pos (2 * e) ≡ pos 64 *ℤ (pos A *ℤ n -ℤ pos e *ℤ fromCentre A m)
+off-by A m n e =
+    solve (pos A ∷ pos m ∷ n ∷ pos e ∷ [])
+    (con (pos 64) ⊗ (var 0 ⊗ (var 2 ⊕ var 3) ⊝ var 3) ⊝ con (pos 64) ⊗ var 1 ⊗ (con (pos 2) ⊗ var 3))
+    (con (pos 64) ⊗ (var 0 ⊗ var 2 ⊝ var 3 ⊗ (con (pos 2) ⊗ var 1 ⊕ con (pos 1) ⊝ var 0))) tt
+
+-- 64·m is T wherever A·num and den·p lie nearer than a 64th of den
+own-position : (A m : ℕ) (n : ℤ) (e : ℕ) → 64 * natAbs (pos A *ℤ n -ℤ pos e *ℤ fromCentre A m) < e → positionOf A (ratio n e) ≡ pos (64 * m)
+own-position A m n e h = rounded-near (pos 64 *ℤ exactPosition A (ratio n e) .numerator) (2 * e) (pos (64 * m))
+    (subst (λ z. natAbs (pos 2 *ℤ z) < 2 * e) (sym (off-by A m n e))
+    (subst (λ k. k < 2 * e) (sym (natAbs-mul (pos 2) (pos 64 *ℤ gap) ∙ ap (λ k. 2 * k) (natAbs-mul (pos 64) gap))) (omega arith)))
+  where
+    gap : ℤ
+    gap = pos A *ℤ n -ℤ pos e *ℤ fromCentre A m
+
+-- two numbers with one sign: the size of the difference of their multiples
+same-sign : (p : ℤ) (a b c d : ℕ) → natAbs (pos a *ℤ withSignOf p c -ℤ pos b *ℤ withSignOf p d) ≡ natAbs (pos (a * c) -ℤ pos (b * d))
+same-sign (pos n) a b c d = refl
+same-sign (negsuc n) a b c d =
+    ap natAbs (solve (pos a ∷ pos b ∷ pos c ∷ pos d ∷ [])
+    (var 0 ⊗ ⊖ (var 2) ⊝ var 1 ⊗ ⊖ (var 3)) (⊖ (var 0 ⊗ var 2 ⊝ var 1 ⊗ var 3)) tt)
+    ∙ natAbs-neg (pos (a * c) -ℤ pos (b * d))
+
+-- equation 14 of a number on the curve
+acp-numerator : (p : ℤ) (c : ℕ) → c ≤ N → withSignOf p c *ℤ (pos (34 * N) -ℤ pos (9 * natAbs (withSignOf p c))) ≡ withSignOf p (bent N c)
+acp-numerator p c h =
+    ap (λ m. withSignOf p c *ℤ (pos (34 * N) -ℤ pos (9 * m))) (sign-size p c)
+    ∙ ap (λ z. withSignOf p c *ℤ z) (pos-sub (34 * N) (9 * c) (omega arith)) ∙ signed p
+  where
+    signed : (p : ℤ) → withSignOf p c *ℤ pos (34 * N - 9 * c) ≡ withSignOf p (bent N c)
+    signed (pos n) = refl
+    signed (negsuc n) = neg-mul (pos c) (pos (34 * N - 9 * c))
+
+-- what the curve leaves out is below 34N·A, and 64 times that is below 25N²
+acp-gap : (A m : ℕ) → A ≤ 512 → m < A → let p : ℤ = fromCentre A m in
+    64 * natAbs (pos A *ℤ withSignOf p (bent N (curve A (natAbs p))) -ℤ pos (25 * N * N) *ℤ p) < 25 * N * N
+acp-gap A m a h = subst (λ k. 64 * k < 25 * N * N) (sym sizes) (near (bent N (curve A k)) low high)
+  where
+    p : ℤ
+    p = fromCentre A m
+
+    k : ℕ
+    k = natAbs p
+
+    low : bent N (curve A k) * A ≤ 25 * N * N * k
+    low = curve-is A k .fits
+
+    high : 25 * N * N * k < bent N (curve A k) * A + 34 * N * A
+    high = curve-next A k (fromCentre-inside A m h)
+
+    sizes : natAbs (pos A *ℤ withSignOf p (bent N (curve A k)) -ℤ pos (25 * N * N) *ℤ p)
+        ≡ natAbs (pos (A * bent N (curve A k)) -ℤ pos (25 * N * N * k))
+    sizes = ap (λ z. natAbs (pos A *ℤ withSignOf p (bent N (curve A k)) -ℤ pos (25 * N * N) *ℤ z)) (sym (own-sign p))
+        ∙ same-sign p A (25 * N * N) (bent N (curve A k)) k
+
+    near : (C : ℕ) → C * A ≤ 25 * N * N * k → 25 * N * N * k < C * A + 34 * N * A
+        → 64 * natAbs (pos (A * C) -ℤ pos (25 * N * N * k)) < 25 * N * N
+    near C l u = omega (arith, difference-small (A * C) (25 * N * N * k) (34 * N * A) (omega arith) (omega arith))
+
+pub position-own : (format : Format) (A m : ℕ) → A ≤ 512 → m < A → position64 format A (faceCoordinate format A m) (scale format A) ≡ pos (64 * m)
+unfolding position64 adjusted
+position-own Format.Cmp A m a h = own-position A m (fromCentre A m) A (subst (λ z. 64 * natAbs z < A) (sym none) (omega arith))
+  where
+    none : pos A *ℤ fromCentre A m -ℤ pos A *ℤ fromCentre A m ≡ pos 0
+    none = +ℤ-invr (pos A *ℤ fromCentre A m)
+position-own Format.Acp A m a h =
+    ap (λ z. positionOf A (ratio z (25 * N * N))) (acp-numerator p (curve A (natAbs p)) (curve-is A (natAbs p) .bounded))
+    ∙ own-position A m (withSignOf p (bent N (curve A (natAbs p)))) (25 * N * N) (acp-gap A m a h)
+  where
+    p : ℤ
+    p = fromCentre A m

@@ -1,0 +1,315 @@
+-- The fold: a rotation is ± its common divisor times what it is reduced to, every common divisor divides that one, and a composition rotates as the
+-- product does. Which of the two signs a reduction takes, only the last part of this module knows.
+use mathlib.Core.Path.{_≡_, refl, sym, _∙_, ap, subst}
+use mathlib.Core.Bool.{Bool, true, false, _&&_, cond}
+use mathlib.Core.List.{[], _∷_}
+use Prim.Native.Nat.{ℕ, zero, suc, _+_, _*_, _-_, _/_, _%_, _≤_, _<_, _∣_}
+use native.Mathlib.Nat.{mod-one, mod-eq-of-lt, div-add-mod', lt-of-not-le, mul-comm, mul-pos, mod-lt, dvd-zero, dvd-mul-left, dvd-mul-right}
+use native.Mathlib.Nat.{dvd-mod-iff, dvd-of-mod-eq-zero, mod-eq-zero-of-dvd, le-of-dvd, mul-dvd-mul-left, le-of-mul-le-mul-left}
+use native.Mathlib.Omega.{arith}
+use lib.Dec.{T, eqb, eqb→eq}
+use borrow.Author.Tests.{eq-eqb}
+use lib.IntN.{ℤ, pos, negsuc, negℤ, natAbs, _*ℤ_}
+use Rattle.arithmetic.specs.Integers.{withSignOf}
+use Rattle.arithmetic.specs.Searches.{largest}
+use Rattle.arithmetic.proofs.Tests.{passes, true-not-false, and-left, and-right, All4, and4}
+use Rattle.arithmetic.proofs.Integers.{mul-neg}
+use Rattle.arithmetic.proofs.Sizes.{natAbs-neg, natAbs-mul, own-sign}
+use Rattle.arithmetic.proofs.Ring.{var, _⊗_, ⊖, solve}
+use Rattle.arithmetic.proofs.Searches.{IsLargest, largest-is}
+use Rattle.cubemap.specs.declared.Ray.{Ray}
+use Rattle.cubemap.specs.declared.Rotation.{Rotation}
+use Rattle.cubemap.specs.PlaceToRay.{times}
+use Rattle.cubemap.specs.Rotations.{rotation, sumOfSquares, rotated, product, dividesAll, commonDivisor, dividedBy, divided}
+use Rattle.cubemap.specs.Rotations.{leadNegative, firstNegative, opposite, signNormalized, reduced, compose}
+use Rattle.cubemap.proofs.Rotations.{rotation-eq, multiple, sum-multiple, sum-product, rotated-multiple, rotated-product}
+
+-- ---- numbers that divide all four
+
+pub record Divides (t : Rotation) (d : ℕ) : Type 0 where
+  pub d0 : natAbs (t .e0) % d ≡ 0
+  pub d1 : natAbs (t .e1) % d ≡ 0
+  pub d2 : natAbs (t .e2) % d ≡ 0
+  pub d3 : natAbs (t .e3) % d ≡ 0
+
+pub divides-in : (t : Rotation) (d : ℕ) → T (dividesAll t d) → Divides t d
+divides-in t d h = go (and4 (at (t .e0)) (at (t .e1)) (at (t .e2)) (at (t .e3)) h)
+  where
+    at : ℤ → Bool
+    at x = eqb (natAbs x % d) 0
+
+    go : All4 (at (t .e0)) (at (t .e1)) (at (t .e2)) (at (t .e3)) → Divides t d
+    go w = record {
+      d0 = eqb→eq (natAbs (t .e0) % d) 0 (w .first);
+      d1 = eqb→eq (natAbs (t .e1) % d) 0 (w .second);
+      d2 = eqb→eq (natAbs (t .e2) % d) 0 (w .third);
+      d3 = eqb→eq (natAbs (t .e3) % d) 0 (w .fourth);
+    }
+
+pub divides-out : (t : Rotation) (d : ℕ) → Divides t d → T (dividesAll t d)
+divides-out t d g = passes (λ i.
+    eq-eqb (natAbs (t .e0) % d) 0 (g .d0) i && eq-eqb (natAbs (t .e1) % d) 0 (g .d1) i
+    && eq-eqb (natAbs (t .e2) % d) 0 (g .d2) i && eq-eqb (natAbs (t .e3) % d) 0 (g .d3) i)
+
+divides-one : (t : Rotation) → Divides t 1
+divides-one t =
+    record { d0 = mod-one (natAbs (t .e0)); d1 = mod-one (natAbs (t .e1)); d2 = mod-one (natAbs (t .e2)); d3 = mod-one (natAbs (t .e3)) }
+
+-- the sum of the four sizes
+abbrev pub sizes : Rotation → ℕ
+sizes t = natAbs (t .e0) + natAbs (t .e1) + natAbs (t .e2) + natAbs (t .e3)
+
+-- it is not 0 where the sum of squares is not
+pub sizes-positive : (t : Rotation) → 0 < sumOfSquares t → 0 < sizes t
+unfolding sumOfSquares
+sizes-positive t h = go (natAbs (t .e0)) (natAbs (t .e1)) (natAbs (t .e2)) (natAbs (t .e3)) h
+  where
+    go : (a b c d : ℕ) → 0 < a * a + b * b + c * c + d * d → 0 < a + b + c + d
+    go zero zero zero zero h = h
+    go (suc a) b c d h = omega arith
+    go zero (suc b) c d h = omega arith
+    go zero zero (suc c) d h = omega arith
+    go zero zero zero (suc d) h = omega arith
+
+-- ---- the common divisor
+
+divisor-is : (t : Rotation) → IsLargest (dividesAll t) (suc (sizes t)) (commonDivisor t)
+unfolding commonDivisor
+divisor-is t = largest-is (dividesAll t) (suc (sizes t)) 1 (omega arith) (divides-out t 1 (divides-one t))
+
+pub divisor-divides : (t : Rotation) → Divides t (commonDivisor t)
+divisor-divides t = divides-in t (commonDivisor t) (divisor-is t .holds)
+
+pub divisor-positive : (t : Rotation) → 0 < commonDivisor t
+divisor-positive t = divisor-is t .most 1 (omega arith) (divides-out t 1 (divides-one t))
+
+-- no number that divides all four is greater, unless all four are 0
+pub divisor-most : (t : Rotation) (d : ℕ) → 0 < sizes t → Divides t d → d ≤ commonDivisor t
+divisor-most t d h g = divisor-is t .most d (within (lt-of-not-le away)) (divides-out t d g)
+  where
+    within : d < suc (sizes t) → d ≤ suc (sizes t)
+    within l = omega arith
+
+    away : suc (sizes t) ≤ d → ⊥
+    away w =
+        let a = sym (mod-eq-of-lt {n = natAbs (t .e0)} {m = d} (omega arith)) ∙ g .d0 in
+        let b = sym (mod-eq-of-lt {n = natAbs (t .e1)} {m = d} (omega arith)) ∙ g .d1 in
+        let c = sym (mod-eq-of-lt {n = natAbs (t .e2)} {m = d} (omega arith)) ∙ g .d2 in
+        let e = sym (mod-eq-of-lt {n = natAbs (t .e3)} {m = d} (omega arith)) ∙ g .d3 in
+        omega arith
+
+-- ---- every common divisor divides it
+
+-- a common multiple of a and b that divides every other
+record LeastMultiple (a b m : ℕ) : Type 0 where
+  positive : 0 < m
+  left : a ∣ m
+  right : b ∣ m
+  least : (n : ℕ) → a ∣ n → b ∣ n → m ∣ n
+
+-- M is the least number above 0 that passes
+record Least (test : ℕ → Bool) (M : ℕ) : Type 0 where
+  positive : 0 < M
+  holds : T (test M)
+  none-below : (d : ℕ) → 0 < d → d < M → T (test d) → ⊥
+
+least : (test : ℕ → Bool) → T (test 0) → (n L : ℕ) → L ≤ n → 0 < L → T (test L) → (M : ℕ) × Least test M
+least test z zero L l h p = absurd (omega arith)
+least test z (suc n) L l h p = go (largest test (L - 1)) (largest-is test (L - 1) 0 (omega arith) z) (least test z n)
+  where
+    go : (m : ℕ) → IsLargest test (L - 1) m → ((L : ℕ) → L ≤ n → 0 < L → T (test L) → (M : ℕ) × Least test M) → (M : ℕ) × Least test M
+    go zero g ih = (L, record { positive = h; holds = p; none-below = λ d a b t. absurd (omega (arith, g .most d (omega arith) t)) })
+    go (suc m) g ih = ih (suc m) (let w = g .bounded in omega arith) (omega arith) (g .holds)
+
+least-multiple : (a b : ℕ) → 0 < a → 0 < b → (m : ℕ) × LeastMultiple a b m
+least-multiple a b ha hb =
+    go (least test (out 0 (dvd-zero a) (dvd-zero b)) (a * b) (a * b) (omega arith) (mul-pos ha hb)
+    (out (a * b) (dvd-mul-right a b) (dvd-mul-left b a)))
+  where
+    test : ℕ → Bool
+    test n = eqb (n % a) 0 && eqb (n % b) 0
+
+    out : (n : ℕ) → a ∣ n → b ∣ n → T (test n)
+    out n p q = passes (λ i. eq-eqb (n % a) 0 (mod-eq-zero-of-dvd a p) i && eq-eqb (n % b) 0 (mod-eq-zero-of-dvd b q) i)
+
+    in-left : (n : ℕ) → T (test n) → a ∣ n
+    in-left n t = dvd-of-mod-eq-zero a (eqb→eq (n % a) 0 (and-left (eqb (n % a) 0) (eqb (n % b) 0) t))
+
+    in-right : (n : ℕ) → T (test n) → b ∣ n
+    in-right n t = dvd-of-mod-eq-zero b (eqb→eq (n % b) 0 (and-right (eqb (n % a) 0) (eqb (n % b) 0) t))
+
+    go : (M : ℕ) × Least test M → (m : ℕ) × LeastMultiple a b m
+    go (M, l) = (
+      M,
+      record {
+        positive = l .positive;
+        left = in-left M (l .holds);
+        right = in-right M (l .holds);
+        least = λ n p q. dvd-of-mod-eq-zero M (none (n % M) (mod-lt n (l .positive))
+            (out (n % M) (dvd-mod-iff a (in-left M (l .holds)) .1 p) (dvd-mod-iff b (in-right M (l .holds)) .1 q)));
+      },
+    )
+      where
+        none : (r : ℕ) → r < M → T (test r) → r ≡ 0
+        none zero m t = refl
+        none (suc r) m t = absurd (l .none-below (suc r) (omega arith) m t)
+
+pub divisor-all : (t : Rotation) (d : ℕ) → 0 < sizes t → 0 < d → Divides t d → d ∣ commonDivisor t
+divisor-all t d h hd g = go (least-multiple d (commonDivisor t) hd (divisor-positive t))
+  where
+    i : Divides t (commonDivisor t)
+    i = divisor-divides t
+
+    go : (m : ℕ) × LeastMultiple d (commonDivisor t) m → d ∣ commonDivisor t
+    go (m, l) =
+        let both : (n : ℕ) → n % d ≡ 0 → n % commonDivisor t ≡ 0 → n % m ≡ 0 =
+        λ n p q. mod-eq-zero-of-dvd m (l .least n (dvd-of-mod-eq-zero d p) (dvd-of-mod-eq-zero (commonDivisor t) q)) in
+        let x : m ≤ commonDivisor t = divisor-most t m h (record {
+          d0 = both (natAbs (t .e0)) (g .d0) (i .d0);
+          d1 = both (natAbs (t .e1)) (g .d1) (i .d1);
+          d2 = both (natAbs (t .e2)) (g .d2) (i .d2);
+          d3 = both (natAbs (t .e3)) (g .d3) (i .d3);
+        }) in
+        let y : commonDivisor t ≤ m = le-of-dvd (l .positive) (l .right) in
+        let e : m ≡ commonDivisor t = omega arith in
+        subst (λ n. d ∣ n) e (l .left)
+
+-- ---- a rotation is a multiple of what it is reduced to
+
+pub record Multiple (t u : Rotation) : Type 0 where
+  pub by : ℤ
+  pub by-nonzero : 0 < natAbs by
+  pub is : t ≡ multiple by u
+
+-- d times x / d, where d divides x
+times-divided : (x : ℤ) (d : ℕ) → natAbs x % d ≡ 0 → x ≡ pos d *ℤ dividedBy d x
+times-divided x d h = sym (own-sign x) ∙ ap (withSignOf x) (sym whole) ∙ sym (signed x (natAbs x / d))
+  where
+    exact : (a r n : ℕ) → r ≡ 0 → a + r ≡ n → a ≡ n
+    exact a r n p q = omega arith
+
+    whole : d * (natAbs x / d) ≡ natAbs x
+    whole = mul-comm d (natAbs x / d) ∙ exact (natAbs x / d * d) (natAbs x % d) (natAbs x) h (div-add-mod' (natAbs x) d)
+
+    signed : (x : ℤ) (c : ℕ) → pos d *ℤ withSignOf x c ≡ withSignOf x (d * c)
+    signed (pos n) c = refl
+    signed (negsuc n) c = mul-neg (pos d) (pos c)
+
+pub divided-multiple : (t : Rotation) → t ≡ multiple (pos (commonDivisor t)) (divided t)
+unfolding divided multiple
+divided-multiple t =
+    let g = divisor-divides t in
+    let d : ℕ = commonDivisor t in
+    rotation-eq
+    (times-divided (t .e0) d (g .d0))
+    (times-divided (t .e1) d (g .d1))
+    (times-divided (t .e2) d (g .d2))
+    (times-divided (t .e3) d (g .d3))
+
+-- a multiple of t is one of its opposite, by the opposite number
+multiple-opposite : (k : ℤ) (t : Rotation) → multiple k t ≡ multiple (negℤ k) (opposite t)
+unfolding multiple
+multiple-opposite k t = rotation-eq (both (t .e0)) (both (t .e1)) (both (t .e2)) (both (t .e3))
+  where
+    both : (x : ℤ) → k *ℤ x ≡ negℤ k *ℤ negℤ x
+    both x = solve (k ∷ x ∷ []) (var 0 ⊗ var 1) (⊖ (var 0) ⊗ ⊖ (var 1)) tt
+
+-- "± the greatest whole number that divides all four" times the reduced rotation: by is plus or minus the common divisor
+pub record ReducedBy (t u : Rotation) : Type 0 where
+  pub by : ℤ
+  pub size : natAbs by ≡ commonDivisor t
+  pub is : t ≡ multiple by u
+
+pub reduced-by : (t : Rotation) → ReducedBy t (reduced t)
+unfolding signNormalized
+reduced-by t = go (firstNegative (divided t))
+  where
+    d : ℤ
+    d = pos (commonDivisor t)
+
+    go : (b : Bool) → ReducedBy t (cond b (opposite (divided t)) (divided t))
+    go true = record { by = negℤ d; size = natAbs-neg d; is = divided-multiple t ∙ multiple-opposite d (divided t) }
+    go false = record { by = d; size = refl; is = divided-multiple t }
+
+pub reduced-multiple : (t : Rotation) → Multiple t (reduced t)
+reduced-multiple t = let r = reduced-by t in record { by = r .by; by-nonzero = subst (λ n. 0 < n) (sym (r .size)) (divisor-positive t); is = r .is }
+
+-- nothing above 1 divides the four numbers of a reduced rotation
+pub reduced-least : (t : Rotation) (d : ℕ) → 0 < sizes t → Divides (reduced t) d → d ≤ 1
+unfolding multiple
+reduced-least t d h g = le-of-mul-le-mul-left {m = d} {n = 1} {k = commonDivisor t} bound (divisor-positive t)
+  where
+    r : ReducedBy t (reduced t)
+    r = reduced-by t
+
+    size : (x y : ℤ) → y ≡ r .by *ℤ x → natAbs y ≡ commonDivisor t * natAbs x
+    size x y e = ap natAbs e ∙ natAbs-mul (r .by) x ∙ ap (λ n. n * natAbs x) (r .size)
+
+    at : (x y : ℤ) → y ≡ r .by *ℤ x → natAbs x % d ≡ 0 → natAbs y % (commonDivisor t * d) ≡ 0
+    at x y e p = mod-eq-zero-of-dvd (commonDivisor t * d)
+        (subst (λ n. commonDivisor t * d ∣ n) (sym (size x y e)) (mul-dvd-mul-left d (commonDivisor t) (dvd-of-mod-eq-zero d p)))
+
+    numbers : t ≡ rotation (r .by *ℤ reduced t .e0) (r .by *ℤ reduced t .e1) (r .by *ℤ reduced t .e2) (r .by *ℤ reduced t .e3)
+    numbers = r .is
+
+    bound : commonDivisor t * d ≤ commonDivisor t * 1
+    bound = omega (
+      arith,
+      divisor-most t (commonDivisor t * d) h (record {
+        d0 = at (reduced t .e0) (t .e0) (ap (λ u. u .e0) numbers) (g .d0);
+        d1 = at (reduced t .e1) (t .e1) (ap (λ u. u .e1) numbers) (g .d1);
+        d2 = at (reduced t .e2) (t .e2) (ap (λ u. u .e2) numbers) (g .d2);
+        d3 = at (reduced t .e3) (t .e3) (ap (λ u. u .e3) numbers) (g .d3);
+      }),
+    )
+
+-- ---- compositions
+
+pub compose-multiple : (a b : Rotation) → Multiple (product a b) (compose a b)
+unfolding compose
+compose-multiple a b = reduced-multiple (product a b)
+
+-- a composition of rotations that are not zero is not zero
+pub compose-positive : (a b : Rotation) → 0 < sumOfSquares a → 0 < sumOfSquares b → 0 < sumOfSquares (compose a b)
+compose-positive a b p q = right (natAbs (m .by) * natAbs (m .by)) (sumOfSquares (compose a b)) (subst (λ n. 0 < n) whole (mul-pos p q))
+  where
+    m : Multiple (product a b) (compose a b)
+    m = compose-multiple a b
+
+    whole : sumOfSquares a * sumOfSquares b ≡ natAbs (m .by) * natAbs (m .by) * sumOfSquares (compose a b)
+    whole = sym (sum-product a b) ∙ ap sumOfSquares (m .is) ∙ sum-multiple (m .by) (compose a b)
+
+    right : (k n : ℕ) → 0 < k * n → 0 < n
+    right k zero h = absurd (omega arith)
+    right k (suc n) h = omega arith
+
+-- a composition, times a positive number, rotates as the first after the later does
+pub record RotatesAs (a b : Rotation) : Type 0 where
+  pub factor : ℕ
+  pub positive : 0 < factor
+  pub is : (v : Ray) → rotated a (rotated b v) ≡ times factor (rotated (compose a b) v)
+
+pub compose-rotates : (a b : Rotation) → RotatesAs a b
+compose-rotates a b = record {
+  factor = natAbs (m .by) * natAbs (m .by);
+  positive = mul-pos (m .by-nonzero) (m .by-nonzero);
+  is = λ v. sym (rotated-product a b v) ∙ ap (λ t. rotated t v) (m .is) ∙ rotated-multiple (m .by) (compose a b) v;
+}
+  where
+    m : Multiple (product a b) (compose a b)
+    m = compose-multiple a b
+
+-- ---- the sign: "if its first nonzero number is negative, all four change sign"
+
+pub reduced-sign : (t : Rotation) → firstNegative (reduced t) ≡ false
+unfolding signNormalized
+reduced-sign t = go (divided t) (firstNegative (divided t)) refl
+  where
+    flipped : (x : ℤ) (a b : Bool) → (a ≡ true → b ≡ false) → leadNegative x a ≡ true → leadNegative (negℤ x) b ≡ false
+    flipped (pos zero) a b h e = h e
+    flipped (pos (suc n)) a b h e = absurd (true-not-false (sym e))
+    flipped (negsuc n) a b h e = refl
+
+    go : (u : Rotation) (b : Bool) → firstNegative u ≡ b → firstNegative (cond b (opposite u) u) ≡ false
+    go u true e = flipped (u .e0) _ _ (flipped (u .e1) _ _ (flipped (u .e2) _ _ (flipped (u .e3) false false (λ x. refl)))) e
+    go u false e = e

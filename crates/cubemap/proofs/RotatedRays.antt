@@ -1,0 +1,87 @@
+-- The ray of a place, rotated, is not zero and within the bound of check 13: its length is S times the ray's.
+use mathlib.Core.Path.{_≡_}
+use mathlib.Core.Bool.{Bool, _&&_}
+use Prim.Native.Nat.{ℕ, zero, _+_, _*_, _≤_, _<_}
+use native.Mathlib.Nat.{mul-le-mul, mul-pos, lt-of-not-le}
+use native.Mathlib.Omega.{arith}
+use lib.Dec.{T, leb, eqb, le→leb, eqb→eq, not-T}
+use lib.IntN.{ℤ, pos, natAbs}
+use Rattle.arithmetic.proofs.Tests.{All3, and3, all3}
+use Rattle.cubemap.specs.declared.Format.{Format}
+use Rattle.cubemap.specs.declared.Place.{Place}
+use Rattle.cubemap.specs.declared.Ray.{Ray}
+use Rattle.cubemap.specs.declared.Rotation.{Rotation}
+use Rattle.cubemap.specs.Frames.{IsPlace}
+use Rattle.cubemap.specs.PlaceToRay.{N, scale, faceCoordinate, rayOf}
+use Rattle.cubemap.specs.Rotations.{sumOfSquares, rotated}
+use Rattle.cubemap.specs.Checks.{rotationInRange, rotationNonzero, rayInRange, rayNonzero}
+use Rattle.cubemap.proofs.FaceCoordinates.{coordinates, scale-positive, scale-bounded}
+use Rattle.cubemap.proofs.Faces.{table3-sizes}
+use Rattle.cubemap.proofs.Rotations.{sizeSquared, rotated-size, sum-positive, sum-bounded}
+
+-- ---- checks 13 and 14 from the length of a ray
+
+root-below : (a b : ℕ) → a * a < b * b → a < b
+root-below a b h = lt-of-not-le (λ l. let g : b * b ≤ a * a = mul-le-mul l l in omega arith)
+
+pub size-in-range : (r : Ray) → sizeSquared r < 536870912 * 536870912 → T (rayInRange r)
+unfolding rayInRange
+size-in-range r h = all3 (leb (natAbs (r .x)) 536870911) (leb (natAbs (r .y)) 536870911) (leb (natAbs (r .z)) 536870911)
+    (number (r .x) (omega arith)) (number (r .y) (omega arith)) (number (r .z) (omega arith))
+  where
+    number : (z : ℤ) → natAbs z * natAbs z < 536870912 * 536870912 → T (leb (natAbs z) 536870911)
+    number z l = let m = root-below (natAbs z) 536870912 l in le→leb (natAbs z) 536870911 (omega arith)
+
+pub size-nonzero : (r : Ray) → 0 < sizeSquared r → T (rayNonzero r)
+unfolding rayNonzero
+size-nonzero r h = not-T (zero? (r .x) && zero? (r .y) && zero? (r .z)) (λ t. none (and3 (zero? (r .x)) (zero? (r .y)) (zero? (r .z)) t))
+  where
+    zero? : ℤ → Bool
+    zero? z = eqb (natAbs z) 0
+
+    square : (z : ℤ) → T (zero? z) → natAbs z * natAbs z ≡ 0
+    square z t = rw (eqb→eq (natAbs z) 0 t)
+
+    none : All3 (zero? (r .x)) (zero? (r .y)) (zero? (r .z)) → ⊥
+    none w = absurd (omega (arith, square (r .x) (w .first), square (r .y) (w .second), square (r .z) (w .third)))
+
+-- ---- the rays of places
+
+pub record PlaceRay (r : Ray) : Type 0 where
+  pub positive : 0 < sizeSquared r
+  pub bounded : sizeSquared r ≤ 3 * (N * N)
+
+pub place-ray : (format : Format) (A : ℕ) (P : Place) → 1 ≤ A → A ≤ 512 → IsPlace A P → PlaceRay (rayOf format A P)
+unfolding rayOf
+place-ray format A P l h p =
+    let s : ℕ = scale format A in
+    let a : ℕ = natAbs (faceCoordinate format A (P .column)) in
+    let b : ℕ = natAbs (faceCoordinate format A (P .row)) in
+    let c = coordinates format A h in
+    go s a b (scale-positive format A l) (scale-bounded format A h) (c .inside (P .column) (p .column-ok)) (c .inside (P .row) (p .row-ok))
+    (table3-sizes (λ n. n * n) (P .face) (pos s) (faceCoordinate format A (P .column)) (faceCoordinate format A (P .row)))
+  where
+    go : (s a b : ℕ) → 0 < s → s ≤ N → a < s → b < s → {r : Ray} → sizeSquared r ≡ s * s + a * a + b * b → PlaceRay r
+    go s a b i m x y e =
+        let ss : s * s ≤ N * N = mul-le-mul m m in
+        let aa : a * a ≤ s * s = mul-le-mul (under x) (under x) in
+        let bb : b * b ≤ s * s = mul-le-mul (under y) (under y) in
+        record { positive = omega (arith, mul-pos i i); bounded = omega arith }
+      where
+        under : {n : ℕ} → n < s → n ≤ s
+        under l = omega arith
+
+-- ---- rotated by a rotation that passes checks 6 and 7
+
+pub record RotatedRay (r : Ray) : Type 0 where
+  pub in-range : T (rayInRange r)
+  pub nonzero : T (rayNonzero r)
+
+pub rotated-ray : (t : Rotation) (r : Ray) → T (rotationInRange t) → T (rotationNonzero t) → PlaceRay r → RotatedRay (rotated t r)
+rotated-ray t r small some p =
+    let S : ℕ = sumOfSquares t in
+    let e = rotated-size t r in
+    let hS = sum-bounded t small in
+    let b : S * S * sizeSquared r ≤ 14776336 * 12884901888 = mul-le-mul (mul-le-mul {n₂ = 3844} {m₂ = 3844} hS hS) (p .bounded) in
+    let c : 0 < S * S * sizeSquared r = mul-pos (mul-pos (sum-positive t some) (sum-positive t some)) (p .positive) in
+    record { in-range = size-in-range (rotated t r) (omega arith); nonzero = size-nonzero (rotated t r) (omega arith) }

@@ -1,0 +1,355 @@
+-- Rotations as matrices: M(a·b) = M(a)·M(b), a multiple of a rotation leads where it does, every rotation has an inverse, and a rotated ray
+-- has S times the ray's length. They rest on identities between polynomials.
+use mathlib.Core.Path.{_≡_, refl, sym, _∙_, ap, ap₂, subst}
+use mathlib.Core.Bool.{Bool, _&&_, not}
+use mathlib.Core.List.{List, [], _∷_}
+use Prim.Native.Nat.{ℕ, zero, suc, _+_, _*_, _≤_, _<_}
+use native.Mathlib.Nat.{mul-pos, mul-le-mul}
+use native.Mathlib.Omega.{arith}
+use lib.Dec.{T, eqb, leb, leb→le}
+use lib.IntN.{ℤ, pos, negℤ, natAbs, _+ℤ_, _*ℤ_, negℤ-negℤ}
+use Rattle.arithmetic.proofs.Tests.{All4, and4}
+use Rattle.arithmetic.proofs.Integers.{mul-assoc}
+use Rattle.arithmetic.proofs.Sizes.{pos-inj, natAbs-neg, natAbs-mul, square, mul-cancel}
+use Rattle.arithmetic.proofs.Ring.{Expr, var, con, _⊕_, _⊗_, _⊝_, ⊖, eval, identical, solve}
+use Rattle.cubemap.specs.declared.Ray.{Ray}
+use Rattle.cubemap.specs.declared.Rotation.{Rotation}
+use Rattle.cubemap.specs.PlaceToRay.{ray, times}
+use Rattle.cubemap.specs.Rotations.{rotation, identity, sumOfSquares, row1, row2, row3, dot, rotated, product}
+use Rattle.cubemap.specs.Checks.{rotationInRange, rotationNonzero}
+
+pub ray-eq : {v w : Ray} → v .x ≡ w .x → v .y ≡ w .y → v .z ≡ w .z → v ≡ w
+ray-eq p q r = λ i. ray (p i) (q i) (r i)
+
+pub rotation-eq : {t u : Rotation} → t .e0 ≡ u .e0 → t .e1 ≡ u .e1 → t .e2 ≡ u .e2 → t .e3 ≡ u .e3 → t ≡ u
+rotation-eq p q r s = λ i. rotation (p i) (q i) (r i) (s i)
+
+-- ---- rotations and rays as expressions, for the ring solver
+
+pub record RotationE : Type 0 where
+  pub e0 : Expr
+  pub e1 : Expr
+  pub e2 : Expr
+  pub e3 : Expr
+
+pub record RayE : Type 0 where
+  pub x : Expr
+  pub y : Expr
+  pub z : Expr
+
+-- the rotation of four unknowns, and the ray of three, from variable i on
+abbrev pub rotationE : ℕ → RotationE
+rotationE i = record { e0 = var i; e1 = var (i + 1); e2 = var (i + 2); e3 = var (i + 3) }
+
+abbrev pub rayE : ℕ → RayE
+rayE i = record { x = var i; y = var (i + 1); z = var (i + 2) }
+
+abbrev pub sumOfSquaresE : RotationE → Expr
+sumOfSquaresE t = t .e0 ⊗ t .e0 ⊕ t .e1 ⊗ t .e1 ⊕ t .e2 ⊗ t .e2 ⊕ t .e3 ⊗ t .e3
+
+abbrev pub row1E : RotationE → RayE
+row1E t = record {
+  x = t .e0 ⊗ t .e0 ⊕ t .e1 ⊗ t .e1 ⊝ t .e2 ⊗ t .e2 ⊝ t .e3 ⊗ t .e3;
+  y = con (pos 2) ⊗ (t .e1 ⊗ t .e2 ⊝ t .e0 ⊗ t .e3);
+  z = con (pos 2) ⊗ (t .e1 ⊗ t .e3 ⊕ t .e0 ⊗ t .e2);
+}
+
+abbrev pub row2E : RotationE → RayE
+row2E t = record {
+  x = con (pos 2) ⊗ (t .e1 ⊗ t .e2 ⊕ t .e0 ⊗ t .e3);
+  y = t .e0 ⊗ t .e0 ⊝ t .e1 ⊗ t .e1 ⊕ t .e2 ⊗ t .e2 ⊝ t .e3 ⊗ t .e3;
+  z = con (pos 2) ⊗ (t .e2 ⊗ t .e3 ⊝ t .e0 ⊗ t .e1);
+}
+
+abbrev pub row3E : RotationE → RayE
+row3E t = record {
+  x = con (pos 2) ⊗ (t .e1 ⊗ t .e3 ⊝ t .e0 ⊗ t .e2);
+  y = con (pos 2) ⊗ (t .e2 ⊗ t .e3 ⊕ t .e0 ⊗ t .e1);
+  z = t .e0 ⊗ t .e0 ⊝ t .e1 ⊗ t .e1 ⊝ t .e2 ⊗ t .e2 ⊕ t .e3 ⊗ t .e3;
+}
+
+abbrev pub dotE : RayE → RayE → Expr
+dotE r v = r .x ⊗ v .x ⊕ r .y ⊗ v .y ⊕ r .z ⊗ v .z
+
+abbrev pub rotatedE : RotationE → RayE → RayE
+rotatedE t v = record { x = dotE (row1E t) v; y = dotE (row2E t) v; z = dotE (row3E t) v }
+
+abbrev pub timesE : Expr → RayE → RayE
+timesE k v = record { x = k ⊗ v .x; y = k ⊗ v .y; z = k ⊗ v .z }
+
+abbrev pub productE : RotationE → RotationE → RotationE
+productE a b = record {
+  e0 = a .e0 ⊗ b .e0 ⊝ a .e1 ⊗ b .e1 ⊝ a .e2 ⊗ b .e2 ⊝ a .e3 ⊗ b .e3;
+  e1 = a .e0 ⊗ b .e1 ⊕ a .e1 ⊗ b .e0 ⊕ a .e2 ⊗ b .e3 ⊝ a .e3 ⊗ b .e2;
+  e2 = a .e0 ⊗ b .e2 ⊝ a .e1 ⊗ b .e3 ⊕ a .e2 ⊗ b .e0 ⊕ a .e3 ⊗ b .e1;
+  e3 = a .e0 ⊗ b .e3 ⊕ a .e1 ⊗ b .e2 ⊝ a .e2 ⊗ b .e1 ⊕ a .e3 ⊗ b .e0;
+}
+
+abbrev pub multipleE : Expr → RotationE → RotationE
+multipleE k t = record { e0 = k ⊗ t .e0; e1 = k ⊗ t .e1; e2 = k ⊗ t .e2; e3 = k ⊗ t .e3 }
+
+abbrev pub inverseE : RotationE → RotationE
+inverseE t = record { e0 = t .e0; e1 = ⊖ (t .e1); e2 = ⊖ (t .e2); e3 = ⊖ (t .e3) }
+
+abbrev evalRay : List ℤ → RayE → Ray
+evalRay ρ v = ray (eval ρ (v .x)) (eval ρ (v .y)) (eval ρ (v .z))
+
+-- two rays of polynomials are one ray where each of the three is one polynomial
+solveRay : (ρ : List ℤ) (l r : RayE) → T (identical ρ (l .x) (r .x)) → T (identical ρ (l .y) (r .y)) → T (identical ρ (l .z) (r .z))
+    → evalRay ρ l ≡ evalRay ρ r
+solveRay ρ l r p q s = ray-eq (solve ρ (l .x) (r .x) p) (solve ρ (l .y) (r .y) q) (solve ρ (l .z) (r .z) s)
+
+-- the numbers of a rotation, and of a rotation and a ray
+abbrev numbers : Rotation → List ℤ
+numbers t = t .e0 ∷ t .e1 ∷ t .e2 ∷ t .e3 ∷ []
+
+abbrev numbersAnd : Rotation → List ℤ → List ℤ
+numbersAnd t ρ = t .e0 ∷ t .e1 ∷ t .e2 ∷ t .e3 ∷ ρ
+
+abbrev rayNumbers : Ray → List ℤ → List ℤ
+rayNumbers v ρ = v .x ∷ v .y ∷ v .z ∷ ρ
+
+-- ---- the sum of the four squares
+
+pub sum-ℤ : (t : Rotation) → pos (sumOfSquares t) ≡ t .e0 *ℤ t .e0 +ℤ t .e1 *ℤ t .e1 +ℤ t .e2 *ℤ t .e2 +ℤ t .e3 *ℤ t .e3
+unfolding sumOfSquares
+sum-ℤ t = sym (ap₂ _+ℤ_ (ap₂ _+ℤ_ (ap₂ _+ℤ_ (square (t .e0)) (square (t .e1))) (square (t .e2))) (square (t .e3)))
+
+-- check 7: it is not 0
+pub sum-positive : (t : Rotation) → T (rotationNonzero t) → 0 < sumOfSquares t
+unfolding rotationNonzero sumOfSquares
+sum-positive t h = go (natAbs (t .e0)) (natAbs (t .e1)) (natAbs (t .e2)) (natAbs (t .e3)) h
+  where
+    go : (a b c d : ℕ) → T (not (eqb a 0 && eqb b 0 && eqb c 0 && eqb d 0)) → 0 < a * a + b * b + c * c + d * d
+    go zero zero zero zero h = absurd h
+    go (suc a) b c d h = omega arith
+    go zero (suc b) c d h = omega arith
+    go zero zero (suc c) d h = omega arith
+    go zero zero zero (suc d) h = omega arith
+
+-- check 6: it is at most 4·31²
+pub sum-bounded : (t : Rotation) → T (rotationInRange t) → sumOfSquares t ≤ 3844
+unfolding rotationInRange sumOfSquares
+sum-bounded t h = go (and4 (small (t .e0)) (small (t .e1)) (small (t .e2)) (small (t .e3)) h)
+  where
+    small : ℤ → Bool
+    small x = leb (natAbs x) 31
+
+    one : (x : ℤ) → T (leb (natAbs x) 31) → natAbs x * natAbs x ≤ 961
+    one x t = mul-le-mul {n₂ = 31} {m₂ = 31} (leb→le (natAbs x) 31 t) (leb→le (natAbs x) 31 t)
+
+    go : All4 (leb (natAbs (t .e0)) 31) (leb (natAbs (t .e1)) 31) (leb (natAbs (t .e2)) 31) (leb (natAbs (t .e3)) 31)
+        → natAbs (t .e0) * natAbs (t .e0) + natAbs (t .e1) * natAbs (t .e1) + natAbs (t .e2) * natAbs (t .e2) + natAbs (t .e3) * natAbs (t .e3) ≤ 3844
+    go w = omega (arith, one (t .e0) (w .first), one (t .e1) (w .second), one (t .e2) (w .third), one (t .e3) (w .fourth))
+
+-- ---- products: M(a·b) = M(a)·M(b)
+
+-- the columns of the matrix
+abbrev pub column1 : Rotation → Ray
+column1 t = ray (row1 t .x) (row2 t .x) (row3 t .x)
+
+abbrev pub column2 : Rotation → Ray
+column2 t = ray (row1 t .y) (row2 t .y) (row3 t .y)
+
+abbrev pub column3 : Rotation → Ray
+column3 t = ray (row1 t .z) (row2 t .z) (row3 t .z)
+
+-- a row times the matrix of t
+abbrev pub rowTimes : Ray → Rotation → Ray
+rowTimes r t = ray (dot r (column1 t)) (dot r (column2 t)) (dot r (column3 t))
+
+abbrev rowTimesE : RayE → RotationE → RayE
+rowTimesE r t = record {
+  x = dotE r (record { x = row1E t .x; y = row2E t .x; z = row3E t .x });
+  y = dotE r (record { x = row1E t .y; y = row2E t .y; z = row3E t .y });
+  z = dotE r (record { x = row1E t .z; y = row2E t .z; z = row3E t .z });
+}
+
+pub record MatrixProduct (a b : Rotation) : Type 0 where
+  pub in-row1 : row1 (product a b) ≡ rowTimes (row1 a) b
+  pub in-row2 : row2 (product a b) ≡ rowTimes (row2 a) b
+  pub in-row3 : row3 (product a b) ≡ rowTimes (row3 a) b
+
+pub matrix-product : (a b : Rotation) → MatrixProduct a b
+unfolding product
+matrix-product a b = record {
+  in-row1 = solveRay ρ (row1E ab) (rowTimesE (row1E (rotationE 0)) (rotationE 4)) tt tt tt;
+  in-row2 = solveRay ρ (row2E ab) (rowTimesE (row2E (rotationE 0)) (rotationE 4)) tt tt tt;
+  in-row3 = solveRay ρ (row3E ab) (rowTimesE (row3E (rotationE 0)) (rotationE 4)) tt tt tt;
+}
+  where
+    ρ : List ℤ
+    ρ = numbersAnd a (numbers b)
+
+    ab : RotationE
+    ab = productE (rotationE 0) (rotationE 4)
+
+-- a row times a matrix, applied to a ray, is the row applied to the rotated ray: for any nine entries
+row-rotated : (r u v w s : Ray)
+    → dot (ray (dot r (ray (u .x) (v .x) (w .x))) (dot r (ray (u .y) (v .y) (w .y))) (dot r (ray (u .z) (v .z) (w .z)))) s
+    ≡ dot r (ray (dot u s) (dot v s) (dot w s))
+row-rotated r u v w s =
+    solve (rayNumbers r (rayNumbers u (rayNumbers v (rayNumbers w (rayNumbers s [])))))
+    (dotE (record {
+      x = dotE (rayE 0) (record { x = var 3; y = var 6; z = var 9 });
+      y = dotE (rayE 0) (record { x = var 4; y = var 7; z = var 10 });
+      z = dotE (rayE 0) (record { x = var 5; y = var 8; z = var 11 });
+    }) (rayE 12))
+    (dotE (rayE 0) (record { x = dotE (rayE 3) (rayE 12); y = dotE (rayE 6) (rayE 12); z = dotE (rayE 9) (rayE 12) })) tt
+
+pub rotated-product : (a b : Rotation) (v : Ray) → rotated (product a b) v ≡ rotated a (rotated b v)
+unfolding rotated
+rotated-product a b v = ray-eq (line (row1 a) (m .in-row1)) (line (row2 a) (m .in-row2)) (line (row3 a) (m .in-row3))
+  where
+    m : MatrixProduct a b
+    m = matrix-product a b
+
+    line : (r : Ray) {s : Ray} → s ≡ rowTimes r b → dot s v ≡ dot r (rotated b v)
+    line r e = ap (λ s. dot s v) e ∙ row-rotated r (row1 b) (row2 b) (row3 b) v
+
+pub sum-product : (a b : Rotation) → sumOfSquares (product a b) ≡ sumOfSquares a * sumOfSquares b
+unfolding product
+sum-product a b = pos-inj (sumOfSquares (product a b)) (sumOfSquares a * sumOfSquares b)
+    (sum-ℤ (product a b)
+    ∙ solve (numbersAnd a (numbers b)) (sumOfSquaresE (productE (rotationE 0) (rotationE 4)))
+    (sumOfSquaresE (rotationE 0) ⊗ sumOfSquaresE (rotationE 4)) tt
+    ∙ sym (ap₂ _*ℤ_ (sum-ℤ a) (sum-ℤ b)))
+
+-- ---- multiples of rays
+
+pub times-times : (j k : ℕ) (v : Ray) → times j (times k v) ≡ times (j * k) v
+unfolding times
+times-times j k v =
+    ray-eq (sym (mul-assoc (pos j) (pos k) (v .x))) (sym (mul-assoc (pos j) (pos k) (v .y))) (sym (mul-assoc (pos j) (pos k) (v .z)))
+
+pub times-cancel : (k : ℕ) (v w : Ray) → 0 < k → times k v ≡ times k w → v ≡ w
+unfolding times
+times-cancel k v w h e =
+    ray-eq
+    (mul-cancel k (v .x) (w .x) h (ap (λ r. r .x) e))
+    (mul-cancel k (v .y) (w .y) h (ap (λ r. r .y) e))
+    (mul-cancel k (v .z) (w .z) h (ap (λ r. r .z) e))
+
+pub rotated-times : (k : ℕ) (t : Rotation) (v : Ray) → rotated t (times k v) ≡ times k (rotated t v)
+unfolding rotated times
+rotated-times k t v =
+    solveRay (numbersAnd t (rayNumbers v (pos k ∷ []))) (rotatedE (rotationE 0) (timesE (var 7) (rayE 4)))
+    (timesE (var 7) (rotatedE (rotationE 0) (rayE 4))) tt tt tt
+
+-- ---- multiples of rotations
+
+unfoldable pub multiple : ℤ → Rotation → Rotation
+multiple k t = rotation (k *ℤ t .e0) (k *ℤ t .e1) (k *ℤ t .e2) (k *ℤ t .e3)
+
+pub sum-multiple : (k : ℤ) (t : Rotation) → sumOfSquares (multiple k t) ≡ natAbs k * natAbs k * sumOfSquares t
+unfolding sumOfSquares multiple
+sum-multiple k t = rw (natAbs-mul k (t .e0), natAbs-mul k (t .e1), natAbs-mul k (t .e2), natAbs-mul k (t .e3)) (omega arith)
+
+pub rotated-multiple : (k : ℤ) (t : Rotation) (v : Ray) → rotated (multiple k t) v ≡ times (natAbs k * natAbs k) (rotated t v)
+unfolding rotated multiple times
+rotated-multiple k t v =
+    solveRay (numbersAnd t (rayNumbers v (k ∷ []))) (rotatedE (multipleE (var 7) (rotationE 0)) (rayE 4))
+    (timesE (var 7 ⊗ var 7) (rotatedE (rotationE 0) (rayE 4))) tt tt tt
+    ∙ ap (λ n. ray (n *ℤ dot (row1 t) v) (n *ℤ dot (row2 t) v) (n *ℤ dot (row3 t) v)) (square k)
+
+-- so a nonzero multiple leads from each ray to the same ray: R·r is S times w for both or for neither
+pub multiple-leads : (k : ℤ) (t : Rotation) (v w : Ray) → rotated t v ≡ times (sumOfSquares t) w
+    → rotated (multiple k t) v ≡ times (sumOfSquares (multiple k t)) w
+multiple-leads k t v w e =
+    rotated-multiple k t v ∙ ap (times (natAbs k * natAbs k)) e ∙ times-times (natAbs k * natAbs k) (sumOfSquares t) w
+    ∙ ap (λ n. times n w) (sym (sum-multiple k t))
+
+pub leads-multiple : (k : ℤ) (t : Rotation) (v w : Ray) → 0 < natAbs k → rotated (multiple k t) v ≡ times (sumOfSquares (multiple k t)) w
+    → rotated t v ≡ times (sumOfSquares t) w
+leads-multiple k t v w h e = times-cancel (natAbs k * natAbs k) (rotated t v) (times (sumOfSquares t) w) (mul-pos h h)
+    (sym (rotated-multiple k t v) ∙ e ∙ ap (λ n. times n w) (sum-multiple k t) ∙ sym (times-times (natAbs k * natAbs k) (sumOfSquares t) w))
+
+-- ---- the identity and the inverse
+
+pub rotated-identity : (v : Ray) → rotated identity v ≡ v
+unfolding rotated
+rotated-identity v = solveRay (rayNumbers v []) (rotatedE one (rayE 0)) (rayE 0) tt tt tt
+  where
+    one : RotationE
+    one = record { e0 = con (pos 1); e1 = con (pos 0); e2 = con (pos 0); e3 = con (pos 0) }
+
+unfoldable pub inverse : Rotation → Rotation
+inverse t = rotation (t .e0) (negℤ (t .e1)) (negℤ (t .e2)) (negℤ (t .e3))
+
+pub sum-inverse : (t : Rotation) → sumOfSquares (inverse t) ≡ sumOfSquares t
+unfolding sumOfSquares inverse
+sum-inverse t = rw (natAbs-neg (t .e1), natAbs-neg (t .e2), natAbs-neg (t .e3))
+
+-- t and its inverse make S times the identity
+inverse-product : (t : Rotation) → product (inverse t) t ≡ multiple (pos (sumOfSquares t)) identity
+unfolding product inverse multiple
+inverse-product t = subst (λ S. product (inverse t) t ≡ rotation (S *ℤ pos 1) (S *ℤ pos 0) (S *ℤ pos 0) (S *ℤ pos 0)) (sym (sum-ℤ t))
+    (rotation-eq (line (p .e0) (S ⊗ con (pos 1)) tt) (line (p .e1) (S ⊗ con (pos 0)) tt) (line (p .e2) (S ⊗ con (pos 0)) tt)
+    (line (p .e3) (S ⊗ con (pos 0)) tt))
+  where
+    p : RotationE
+    p = productE (inverseE (rotationE 0)) (rotationE 0)
+
+    S : Expr
+    S = sumOfSquaresE (rotationE 0)
+
+    line : (l r : Expr) → T (identical (numbers t) l r) → eval (numbers t) l ≡ eval (numbers t) r
+    line l r h = solve (numbers t) l r h
+
+pub inverse-inverse : (t : Rotation) → inverse (inverse t) ≡ t
+unfolding inverse
+inverse-inverse t = rotation-eq refl (negℤ-negℤ (t .e1)) (negℤ-negℤ (t .e2)) (negℤ-negℤ (t .e3))
+
+pub inverse-rotated : (t : Rotation) (v : Ray) → rotated (inverse t) (rotated t v) ≡ times (sumOfSquares t * sumOfSquares t) v
+inverse-rotated t v =
+    sym (rotated-product (inverse t) t v) ∙ ap (λ u. rotated u v) (inverse-product t)
+    ∙ rotated-multiple (pos (sumOfSquares t)) identity v ∙ ap (times (sumOfSquares t * sumOfSquares t)) (rotated-identity v)
+
+pub rotated-inverse : (t : Rotation) (v : Ray) → rotated t (rotated (inverse t) v) ≡ times (sumOfSquares t * sumOfSquares t) v
+rotated-inverse t v =
+    ap (λ u. rotated u (rotated (inverse t) v)) (sym (inverse-inverse t)) ∙ inverse-rotated (inverse t) v
+    ∙ ap (λ n. times (n * n) v) (sum-inverse t)
+
+-- the inverse's matrix is the transposed one
+pub record Transposed (t : Rotation) : Type 0 where
+  pub in-row1 : row1 (inverse t) ≡ column1 t
+  pub in-row2 : row2 (inverse t) ≡ column2 t
+  pub in-row3 : row3 (inverse t) ≡ column3 t
+
+pub transposed : (t : Rotation) → Transposed t
+unfolding inverse
+transposed t = record {
+  in-row1 = solveRay (numbers t) (row1E (inverseE T0)) (record { x = row1E T0 .x; y = row2E T0 .x; z = row3E T0 .x }) tt tt tt;
+  in-row2 = solveRay (numbers t) (row2E (inverseE T0)) (record { x = row1E T0 .y; y = row2E T0 .y; z = row3E T0 .y }) tt tt tt;
+  in-row3 = solveRay (numbers t) (row3E (inverseE T0)) (record { x = row1E T0 .z; y = row2E T0 .z; z = row3E T0 .z }) tt tt tt;
+}
+  where
+    T0 : RotationE
+    T0 = rotationE 0
+
+-- ---- lengths: |R·r|² = S²·|r|²
+
+abbrev pub sizeSquared : Ray → ℕ
+sizeSquared r = natAbs (r .x) * natAbs (r .x) + natAbs (r .y) * natAbs (r .y) + natAbs (r .z) * natAbs (r .z)
+
+pub size-ℤ : (r : Ray) → dot r r ≡ pos (sizeSquared r)
+size-ℤ r = ap₂ _+ℤ_ (ap₂ _+ℤ_ (square (r .x)) (square (r .y))) (square (r .z))
+
+-- a rotation moves to the other side of a product of rays as its inverse
+dot-rotated : (t : Rotation) (u w : Ray) → dot (rotated t u) w ≡ dot u (rotated (inverse t) w)
+unfolding rotated inverse
+dot-rotated t u w =
+    solve (numbersAnd t (rayNumbers u (rayNumbers w []))) (dotE (rotatedE (rotationE 0) (rayE 4)) (rayE 7))
+    (dotE (rayE 4) (rotatedE (inverseE (rotationE 0)) (rayE 7))) tt
+
+dot-times : (k : ℕ) (u w : Ray) → dot u (times k w) ≡ pos k *ℤ dot u w
+unfolding times
+dot-times k u w = solve (pos k ∷ rayNumbers u (rayNumbers w [])) (dotE (rayE 1) (timesE (var 0) (rayE 4))) (var 0 ⊗ dotE (rayE 1) (rayE 4)) tt
+
+pub rotated-size : (t : Rotation) (r : Ray) → sizeSquared (rotated t r) ≡ sumOfSquares t * sumOfSquares t * sizeSquared r
+rotated-size t r = pos-inj (sizeSquared (rotated t r)) (S * S * sizeSquared r)
+    (sym (size-ℤ (rotated t r)) ∙ dot-rotated t r (rotated t r) ∙ ap (dot r) (inverse-rotated t r) ∙ dot-times (S * S) r r
+    ∙ ap (λ z. pos (S * S) *ℤ z) (size-ℤ r))
+  where
+    S : ℕ
+    S = sumOfSquares t
