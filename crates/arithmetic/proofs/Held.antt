@@ -1,17 +1,18 @@
 -- What the machine holds of a signed 64-bit number: the bits n, the number z that they read as, and a bound B on its size. Each operation has
 -- one law: from what its two operands hold, that the operation does not overflow (`-ok`), and what its result holds. Where the bounds are
 -- numerals, `tt` decides.
-use mathlib.Core.Path.{_≡_, sym, _∙_, ap₂, subst}
+use mathlib.Core.Path.{_≡_, refl, sym, _∙_, ap, ap₂, subst}
 use mathlib.Core.Bool.{Bool, true, false}
 use Prim.Native.Nat.{ℕ, _+_, _*_, _^_, _≤_, _<_}
-use native.Mathlib.Nat.{le-trans, le-refl, mul-le-mul, add-le-add, lt-of-le-of-lt}
+use native.Mathlib.Nat.{le-trans, le-refl, mul-le-mul, add-le-add, lt-of-le-of-lt, div-le-self}
 use native.Mathlib.Omega.{arith}
 use lib.Dec.{T, ltb, ltb→lt}
 use lib.IntN.{ℤ, pos, negsuc, negℤ, natAbs, _+ℤ_, _-ℤ_, _*ℤ_}
-use lib.Signed.{mag, ltZ, nonNeg}
+use lib.Signed.{mag, ltZ, nonNeg, shrZ}
 use mir.Syntax.{w64}
 use mir.Val.{SFits, Fits, toZ, ofZ}
 use mir.Facts.{toZ-ofZ}
+use Rattle.arithmetic.specs.Integers.{floorDiv}
 use Rattle.arithmetic.proofs.Sizes.{natAbs-neg, natAbs-mul, natAbs-add}
 
 mag-natAbs : (z : ℤ) → mag z ≤ natAbs z
@@ -68,6 +69,24 @@ module _ {n m : ℕ} {x y : ℤ} {A B : ℕ} (p : Held n x A) (q : Held m y B) w
 
   pub sub : T (ltb (A + B) (2 ^ 63)) → Held (ofZ w64 (toZ w64 n -ℤ toZ w64 m)) (x -ℤ y) (A + B)
   sub t = record { is = toZ-ofZ (sub-ok t) ∙ ap₂ _-ℤ_ (p .is) (q .is); small = sub-small }
+
+-- a shift to the right is division that rounds down
+pub shift-is : (z : ℤ) (m : ℕ) → shrZ z m ≡ floorDiv z m
+shift-is (pos a) m = refl
+shift-is (negsuc a) m = refl
+
+floor-small : (z : ℤ) (m : ℕ) → natAbs (floorDiv z m) ≤ natAbs z
+floor-small (pos a) m = div-le-self a m
+floor-small (negsuc a) m = let h = div-le-self a m in omega arith
+
+pub shift : {n : ℕ} {x : ℤ} {A : ℕ} → Held n x A → T (ltb A (2 ^ 63)) → (m : ℕ) → Held (ofZ w64 (shrZ (toZ w64 n) m)) (floorDiv x m) A
+shift {n} {x} {A} p t m = record {
+  is = ap (λ z. toZ w64 (ofZ w64 z)) (ap (λ z. shrZ z m) (p .is) ∙ shift-is x m) ∙ toZ-ofZ (sfits small (ltb→lt A (2 ^ 63) t));
+  small = small;
+}
+  where
+    small : natAbs (floorDiv x m) ≤ A
+    small = le-trans (floor-small x m) (p .small)
 
 -- a test of two held numbers is the test of the numbers
 pub lt-is : {n m : ℕ} {x y : ℤ} {A B : ℕ} {t : Bool} → Held n x A → Held m y B → ltZ (toZ w64 n) (toZ w64 m) ≡ t → ltZ x y ≡ t

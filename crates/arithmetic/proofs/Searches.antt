@@ -1,5 +1,5 @@
 -- What `largest` and `lowest` find, and what `allBelow` says.
-use mathlib.Core.Path.{_≡_, refl, sym, _∙_, ap, subst}
+use mathlib.Core.Path.{_≡_, refl, sym, subst}
 use mathlib.Core.Bool.{Bool, true, false, not}
 use mathlib.Core.Logic.{_⊎_, inl, inr, ⊎-elim}
 use Prim.Native.Nat.{ℕ, zero, suc, _+_, _≤_, _<_}
@@ -53,14 +53,6 @@ largest-unique test n c g = go (largest-is test n c (g .bounded) (g .holds))
         let y : c ≤ largest test n = i .most c (g .bounded) (g .holds) in
         omega arith
 
--- tests that agree find the same
-pub largest-cong : (f g : ℕ → Bool) (n : ℕ) → ((c : ℕ) → c ≤ n → f c ≡ g c) → largest f n ≡ largest g n
-unfolding largest
-largest-cong f g zero h = refl
-largest-cong f g (suc n) h =
-    ap (λ (b : Bool). elim b [ true ↦ suc n | false ↦ largest f n ]) (h (suc n) (omega arith))
-    ∙ ap (λ (m : ℕ). elim (g (suc n)) [ true ↦ suc n | false ↦ m ]) (largest-cong f g n (λ c l. h c (omega arith)))
-
 -- ---- the lowest
 
 -- r is the lowest of the n numbers from i on that passes, or i + n where none does
@@ -90,19 +82,29 @@ lowestFrom-is test (suc n) i = go (test i) refl (lowestFrom-is test n (suc i))
         later j h t (yes d) = absurd (fails e (subst (λ k. T (test k)) (sym d) t))
         later j h t (no d) = ⊎-elim (λ l. inl l) (λ l. inr (omega arith)) (ih .least j (omega arith) t)
 
--- where some number j below n passes, the lowest does, and it is no greater
-pub record Lowest (test : ℕ → Bool) (n j r : ℕ) : Type 0 where
+-- r is the lowest number that passes, and below n
+pub record Lowest (test : ℕ → Bool) (n r : ℕ) : Type 0 where
   pub below : r < n
   pub holds : T (test r)
-  pub least : r ≤ j
+  pub least : (j : ℕ) → T (test j) → r ≤ j
 
-pub lowest-is : (test : ℕ → Bool) (n j : ℕ) → j < n → T (test j) → Lowest test n j (lowest test n)
-lowest-is test n j h t = go (lowestFrom-is test n 0)
+-- an end that is not the bound is the lowest
+lowest-below : (test : ℕ → Bool) (n : ℕ) → lowest test n < n → Lowest test n (lowest test n)
+lowest-below test n h = go (lowestFrom-is test n 0)
   where
-    go : IsLowest test 0 n (lowestFrom test n 0) → Lowest test n j (lowestFrom test n 0)
-    go i =
-        let l : lowestFrom test n 0 ≤ j = ⊎-elim (λ m. m) (λ m. absurd (omega arith)) (i .least j (omega arith) t) in
-        record { below = omega arith; holds = i .holds (omega arith); least = l }
+    go : IsLowest test 0 n (lowestFrom test n 0) → Lowest test n (lowestFrom test n 0)
+    go i = record {
+      below = h;
+      holds = i .holds (omega arith);
+      least = λ j t. ⊎-elim (λ l. l) (λ l. omega arith) (i .least j (omega arith) t);
+    }
+
+-- where some number j below n passes, `lowest` is it
+pub lowest-is : (test : ℕ → Bool) (n j : ℕ) → j < n → T (test j) → Lowest test n (lowest test n)
+lowest-is test n j h t = lowest-below test n (go (lowestFrom-is test n 0))
+  where
+    go : IsLowest test 0 n (lowestFrom test n 0) → lowestFrom test n 0 < n
+    go i = ⊎-elim (λ l. omega arith) (λ l. absurd (omega arith)) (i .least j (omega arith) t)
 
 -- the only number below n that passes
 pub lowest-only : (test : ℕ → Bool) (n j : ℕ) → j < n → T (test j) → ((i : ℕ) → i < n → T (test i) → i ≡ j) → lowest test n ≡ j
@@ -125,21 +127,20 @@ all-of test zero h = tt
 all-of test (suc n) h = and-both (allBelow test n) (test n) (all-of test n (λ i l. h i (omega arith))) (h n (omega arith))
 
 -- where not all pass, the lowest that does not pass is below the bound
-pub not-all : (test : ℕ → Bool) (n : ℕ) → (T (allBelow test n) → ⊥) → Lowest (λ i. not (test i)) n n (lowest (λ i. not (test i)) n)
-not-all test n f = go (lowestFrom-is (λ i. not (test i)) n 0)
+pub not-all : (test : ℕ → Bool) (n : ℕ) → (T (allBelow test n) → ⊥) → Lowest (λ i. not (test i)) n (lowest (λ i. not (test i)) n)
+not-all test n f = lowest-below (λ i. not (test i)) n (decide (decLt r n))
   where
-    go : IsLowest (λ i. not (test i)) 0 n (lowestFrom (λ i. not (test i)) n 0)
-        → Lowest (λ i. not (test i)) n n (lowestFrom (λ i. not (test i)) n 0)
-    go i = decide (decLt r n)
-      where
-        r : ℕ
-        r = lowestFrom (λ i. not (test i)) n 0
+    r : ℕ
+    r = lowestFrom (λ i. not (test i)) n 0
 
-        each : (r < n → ⊥) → (j : ℕ) → j < n → (b : Bool) → test j ≡ b → T (test j)
-        each d j l true e = passes e
-        each d j l false e =
-            absurd (⊎-elim (λ m. d (omega arith)) (λ m. absurd (omega arith)) (i .least j (omega arith) (subst (λ b. T (not b)) (sym e) tt)))
+    i : IsLowest (λ i. not (test i)) 0 n r
+    i = lowestFrom-is (λ i. not (test i)) n 0
 
-        decide : Dec (r < n) → Lowest (λ i. not (test i)) n n r
-        decide (yes l) = record { below = l; holds = i .holds (omega arith); least = omega arith }
-        decide (no d) = absurd (f (all-of test n (λ j l. each d j l (test j) refl)))
+    each : (r < n → ⊥) → (j : ℕ) → j < n → (b : Bool) → test j ≡ b → T (test j)
+    each d j l true e = passes e
+    each d j l false e =
+        absurd (⊎-elim (λ m. d (omega arith)) (λ m. absurd (omega arith)) (i .least j (omega arith) (subst (λ b. T (not b)) (sym e) tt)))
+
+    decide : Dec (r < n) → r < n
+    decide (yes l) = l
+    decide (no d) = absurd (f (all-of test n (λ j l. each d j l (test j) refl)))

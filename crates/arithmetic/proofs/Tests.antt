@@ -4,10 +4,6 @@ use mathlib.Core.Logic.{_⊎_, inl, inr}
 use mathlib.Core.Bool.{Bool, true, false, _&&_, _||_, cond}
 use lib.Dec.{T}
 
-pub is-true : (b : Bool) → T b → b ≡ true
-is-true true t = refl
-is-true false t = absurd t
-
 pub passes : {b : Bool} → b ≡ true → T b
 passes e = subst T (sym e) tt
 

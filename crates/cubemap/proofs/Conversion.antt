@@ -50,7 +50,7 @@ module _ (s : ConvertSettings) (n m : ℕ) (source : List ℕ) (c : ConvertPasse
   rotated-target-ray =
       let z = size-range (s .targetSize) (c .target-size) in
       rotated-ray (s .rotation) targetRay (c .rotation-in-range) (c .rotation-nonzero)
-      (place-ray (formatOf (s .targetFormat)) (s .targetSize) P (z .low) (z .high) p)
+      (place-ray (formatOf (s .targetFormat)) (s .targetSize) P (z .at-least) (z .at-most) p)
 
   -- so look-up of that ray answers 0, with the very position that the conversion reads
   pub looked-up : lookUpResult (s .sourceShape .size) (s .sourceShape .format) (rotated (s .rotation) targetRay)
@@ -77,7 +77,7 @@ module _ (s : ConvertSettings) (n m : ℕ) (source : List ℕ) (c : ConvertPasse
   converted-within =
       value-within (samplerOf (s .sampler)) (s .sourceShape .size) (s .sourceShape .depth)
       (sampleAtPlace source (s .sourceShape .size) (s .sourceLayout)) (sourcePosition (s .sourceShape) (s .rotation) targetRay)
-      (size-range (s .sourceShape .size) (c .source-size) .low) position-on-face
+      (size-range (s .sourceShape .size) (c .source-size) .at-least) position-on-face
       (λ Q q. place-below (s .sourceShape) (s .sourceLayout) source Q (layout-holds (s .sourceLayout) (c .source-layout)) (c .samples) q)
 
 -- the same of an accepted conversion
@@ -138,7 +138,7 @@ unfolding convertedSample targetShape
 converted-own s n m source P Q c same q e =
     ap (λ z. valueAt (s .sourceShape) (s .sourceLayout) source (s .sampler) (sourcePosition (s .sourceShape) (s .rotation) (rayIn z P))) same
     ∙ led-value (s .sourceShape) (s .sourceLayout) source (s .sampler) (s .rotation) P Q
-    (size-range (s .sourceShape .size) (c .source-size) .high) (sum-positive (s .rotation) (c .rotation-nonzero))
+    (size-range (s .sourceShape .size) (c .source-size) .at-most) (sum-positive (s .rotation) (c .rotation-nonzero))
     (layout-holds (s .sourceLayout) (c .source-layout)) (c .samples) q e
 
 -- so a conversion by a cube rotation to a frame of the source's shape gives, at each place, the source's own sample at the place to which it leads
@@ -149,5 +149,5 @@ pub converted-cube : (s : ConvertSettings) (n m : ℕ) (source : List ℕ) (P : 
 converted-cube s n m source P c same cube p = (Q, converted-own s n m source P (Q .to) c same (Q .ok) (Q .ray))
   where
     Q : Step (s .sourceShape) (s .rotation) P
-    Q = cube-step (s .sourceShape) (s .rotation) P (size-range (s .sourceShape .size) (c .source-size) .high)
+    Q = cube-step (s .sourceShape) (s .rotation) P (size-range (s .sourceShape .size) (c .source-size) .at-most)
         (sum-positive (s .rotation) (c .rotation-nonzero)) cube p

@@ -1,17 +1,18 @@
 -- A sample of `framed` is what was framed; a frame whose bytes are given place by place; and which frames pass checks 10 and 11.
 use mathlib.Core.Path.{_≡_, refl, sym, _∙_, ap, ap₂}
+use mathlib.Core.Bool.{not}
 use mathlib.Core.List.{List, [], _∷_, _++_}
 use Prim.Native.Nat.{ℕ, zero, suc, _+_, _*_, _^_, _<_}
 use native.Mathlib.Decide.{ℕ-discrete}
 use native.Mathlib.Omega.{arith}
 use lib.Dec.{T, ltb→lt, lt→ltb}
 use lib.ListN.{length, length-append, getD, List·getD-append}
-use Rattle.arithmetic.proofs.Searches.{all-at, all-of}
+use Rattle.arithmetic.proofs.Searches.{all-at, all-of, Lowest, not-all}
 use Rattle.cubemap.specs.declared.Place.{Place}
 use Rattle.cubemap.specs.declared.Shape.{Shape}
 use Rattle.cubemap.specs.Interface.{littleEndian}
 use Rattle.cubemap.specs.Frames.{IsPlace, sampleAt, framed, planeSamples, samplesIn, index, placeAt, sampleAtPlace}
-use Rattle.cubemap.specs.Checks.{sampleOK, samplesOK}
+use Rattle.cubemap.specs.Checks.{sampleOK, samplesOK, lowestBeyond}
 use Rattle.cubemap.proofs.Layouts.{LayoutHolds}
 use Rattle.cubemap.proofs.Indices.{index-ok, placeAt-index, placeAt-ok}
 
@@ -85,6 +86,12 @@ samples-below z bytes t i h = ltb→lt (sampleAt bytes i) (2 ^ z .depth) (all-at
 pub below-samples : (z : Shape) (bytes : List ℕ) → ((i : ℕ) → i < samplesIn z → sampleAt bytes i < 2 ^ z .depth) → T (samplesOK z bytes)
 unfolding samplesOK
 below-samples z bytes h = all-of (sampleOK z bytes) (samplesIn z) (λ i l. lt→ltb (sampleAt bytes i) (2 ^ z .depth) (h i l))
+
+-- where not every sample is within the depth, the index that comes with the refusal is that of the lowest one beyond
+pub lowestBeyond-is : (z : Shape) (bytes : List ℕ) → (T (samplesOK z bytes) → ⊥)
+    → Lowest (λ i. not (sampleOK z bytes i)) (samplesIn z) (lowestBeyond z bytes)
+unfolding samplesOK lowestBeyond
+lowestBeyond-is z bytes f = not-all (sampleOK z bytes) (samplesIn z) f
 
 -- at a place of a frame with a layout that passes check 5
 pub place-below : (z : Shape) (L bytes : List ℕ) (P : Place) → LayoutHolds L → T (samplesOK z bytes) → IsPlace (z .size) P

@@ -221,7 +221,7 @@ module _ (A : ℕ) (L : List ℕ) (o : LayoutHolds L) where
 
   -- the search of `placeAt` finds a place with the index
   found : (i : ℕ) → i < planeSamples A
-      → Lowest (λ k. eqb (index A L (placeNumbered A k)) i) (planeSamples A) (numberOf A (placeBySlot A L i))
+      → Lowest (λ k. eqb (index A L (placeNumbered A k)) i) (planeSamples A)
       (lowest (λ k. eqb (index A L (placeNumbered A k)) i) (planeSamples A))
   found i h = lowest-is (λ k. eqb (index A L (placeNumbered A k)) i) (planeSamples A) (numberOf A (placeBySlot A L i))
       (number-below A (placeBySlot A L i) (bySlot-ok i h))

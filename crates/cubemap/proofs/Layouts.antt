@@ -115,7 +115,7 @@ module _ (L : List ℕ) (t : T (layoutOK L)) where
   in-slot slot h = hits-near (faceIn L slot) (hit-each (faceIn L) (λ f l. omega (arith, counted f l)) slot h)
 
   -- where some slot holds the face, `slotOf` finds the first that does
-  found : (f slot : ℕ) → slot < 6 → faceIn L slot ≡ f → Lowest (λ slot. eqb (faceIn L slot) f) 6 slot (slotOf L f)
+  found : (f slot : ℕ) → slot < 6 → faceIn L slot ≡ f → Lowest (λ slot. eqb (faceIn L slot) f) 6 (slotOf L f)
   unfolding slotOf
   found f slot h e = lowest-is (λ slot. eqb (faceIn L slot) f) 6 slot h (subst (λ g. T (eqb (faceIn L slot) g)) e (eqb-refl (faceIn L slot)))
 
@@ -140,7 +140,7 @@ module _ (L : List ℕ) (t : T (layoutOK L)) where
   slot-own : (slot : ℕ) → slot < 6 → slotOf L (faceIn L slot) ≡ slot
   slot-own slot h = go (decLt (slotOf L (faceIn L slot)) slot)
     where
-      w : Lowest (λ k. eqb (faceIn L k) (faceIn L slot)) 6 slot (slotOf L (faceIn L slot))
+      w : Lowest (λ k. eqb (faceIn L k) (faceIn L slot)) 6 (slotOf L (faceIn L slot))
       w = found (faceIn L slot) slot h refl
 
       go : Dec (slotOf L (faceIn L slot) < slot) → slotOf L (faceIn L slot) ≡ slot
@@ -149,7 +149,7 @@ module _ (L : List ℕ) (t : T (layoutOK L)) where
         counted (faceIn L slot) (in-slot slot h),
         count-two (λ k. eqb (faceIn L k) (faceIn L slot)) 6 (slotOf L (faceIn L slot)) slot l h (w .holds) (eqb-refl (faceIn L slot)),
       ))
-      go (no d) = omega (arith, w .least)
+      go (no d) = omega (arith, w .least slot (eqb-refl (faceIn L slot)))
 
   pub layout-holds : LayoutHolds L
   unfolding turnsOK

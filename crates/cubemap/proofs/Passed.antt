@@ -8,7 +8,7 @@ use lib.ListN.{length}
 use Rattle.arithmetic.proofs.Tests.{and-left, and-right, All3, and3}
 use Rattle.cubemap.specs.declared.Ray.{Ray}
 use Rattle.cubemap.specs.Interface.{answer, accepted, isAccepted}
-use Rattle.cubemap.specs.Checks.{ConvertSettings, ScoreSettings, targetShape, Check, firstFailed, sizeOK, depthOK, codeOK, layoutOK}
+use Rattle.cubemap.specs.Checks.{ConvertSettings, ScoreSettings, targetShape, Check, firstFailed, between, sizeOK, depthOK, codeOK, layoutOK}
 use Rattle.cubemap.specs.Checks.{rotationInRange, rotationNonzero, lengthOK, samplesOK, rayInRange, rayNonzero}
 use Rattle.cubemap.specs.Checks.{sizeChecks, settingChecks, lengthChecks, beforeSamples, convertChecks, scoreChecks, lookUpChecks}
 
@@ -62,25 +62,27 @@ firstFailed-append (c ∷ xs) ys n = go (c .holds) (firstFailed-append xs ys (an
     go true ih = ih
     go false ih = refused (eqb (c .number) 0) (and-left (not (eqb (c .number) 0)) (numbered xs) n)
 
--- ---- the numbers of a check
+-- ---- a number between two others
+
+pub record Between (low high x : ℕ) : Type 0 where
+  pub at-least : low ≤ x
+  pub at-most : x ≤ high
+
+between-is : (low high x : ℕ) → T (between low high x) → Between low high x
+between-is low high x t = record {
+  at-least = leb→le low x (and-left (leb low x) (leb x high) t);
+  at-most = leb→le x high (and-right (leb low x) (leb x high) t);
+}
 
 -- 1, 2
-pub record SizeRange (A : ℕ) : Type 0 where
-  pub low : 1 ≤ A
-  pub high : A ≤ 512
-
-pub size-range : (A : ℕ) → T (sizeOK A) → SizeRange A
+pub size-range : (A : ℕ) → T (sizeOK A) → Between 1 512 A
 unfolding sizeOK
-size-range A t = record { low = leb→le 1 A (and-left (leb 1 A) (leb A 512) t); high = leb→le A 512 (and-right (leb 1 A) (leb A 512) t) }
+size-range A t = between-is 1 512 A t
 
 -- 3
-pub record DepthRange (D : ℕ) : Type 0 where
-  pub low : 8 ≤ D
-  pub high : D ≤ 12
-
-pub depth-range : (D : ℕ) → T (depthOK D) → DepthRange D
+pub depth-range : (D : ℕ) → T (depthOK D) → Between 8 12 D
 unfolding depthOK
-depth-range D t = record { low = leb→le 8 D (and-left (leb 8 D) (leb D 12) t); high = leb→le D 12 (and-right (leb 8 D) (leb D 12) t) }
+depth-range D t = between-is 8 12 D t
 
 -- ---- convert
 

@@ -151,14 +151,14 @@ unfolding tapWeight
 weights-at-zero = record { tap0 = refl; tap1 = refl; tap2 = refl; tap3 = refl }
 
 -- 64·m has base m and phase 0
-base-own : (m : ℕ) → base (pos (64 * m)) ≡ pos m
+pub base-own : (m : ℕ) → base (pos (64 * m)) ≡ pos m
 unfolding base
 base-own m = ap pos (whole m)
   where
     whole : (m : ℕ) → 64 * m / 64 ≡ m
     whole m = omega arith
 
-phase-own : (m : ℕ) → phase (pos (64 * m)) ≡ pos 0
+pub phase-own : (m : ℕ) → phase (pos (64 * m)) ≡ pos 0
 unfolding phase
 phase-own m = ap (λ z. pos (64 * m) -ℤ pos 64 *ℤ z) (base-own m) ∙ +ℤ-invr (pos (64 * m))
 
