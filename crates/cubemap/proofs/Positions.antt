@@ -190,7 +190,7 @@ position-times Format.Acp A k x d h =
 
 -- ---- a column's own number: 64 times the column, exactly in CMP, and within the rounding in ACP
 
--- how far 64 times the exact position is from 64·m: 64·(A·num − den·p), of den / 1
+-- with g = n / e, 64 times the exact position is off 64·m by 64·(A·n − e·p) parts of 2·e
 off-by : (A m : ℕ) (n : ℤ) (e : ℕ)
     → pos 64 *ℤ exactPosition A (ratio n e) .numerator -ℤ pos (64 * m) *ℤ pos (2 * e) ≡ pos 64 *ℤ (pos A *ℤ n -ℤ pos e *ℤ fromCentre A m)
 off-by A m n e =
@@ -198,7 +198,7 @@ off-by A m n e =
     (con (pos 64) ⊗ (var 0 ⊗ (var 2 ⊕ var 3) ⊝ var 3) ⊝ con (pos 64) ⊗ var 1 ⊗ (con (pos 2) ⊗ var 3))
     (con (pos 64) ⊗ (var 0 ⊗ var 2 ⊝ var 3 ⊗ (con (pos 2) ⊗ var 1 ⊕ con (pos 1) ⊝ var 0))) tt
 
--- 64·m is T wherever A·num and den·p lie nearer than a 64th of den
+-- so T is 64·m where A·n and e·p lie nearer than a 64th of e
 own-position : (A m : ℕ) (n : ℤ) (e : ℕ) → 64 * natAbs (pos A *ℤ n -ℤ pos e *ℤ fromCentre A m) < e → positionOf A (ratio n e) ≡ pos (64 * m)
 own-position A m n e h = rounded-near (pos 64 *ℤ exactPosition A (ratio n e) .numerator) (2 * e) (pos (64 * m))
     (subst (λ z. natAbs (pos 2 *ℤ z) < 2 * e) (sym (off-by A m n e))

@@ -99,12 +99,12 @@ solveRay : (ρ : List ℤ) (l r : RayE) → T (identical ρ (l .x) (r .x)) → T
     → evalRay ρ l ≡ evalRay ρ r
 solveRay ρ l r p q s = ray-eq (solve ρ (l .x) (r .x) p) (solve ρ (l .y) (r .y) q) (solve ρ (l .z) (r .z) s)
 
--- the numbers of a rotation, and of a rotation and a ray
-abbrev numbers : Rotation → List ℤ
-numbers t = t .e0 ∷ t .e1 ∷ t .e2 ∷ t .e3 ∷ []
-
+-- the values of the variables: the numbers of rotations and rays, one after the other
 abbrev numbersAnd : Rotation → List ℤ → List ℤ
 numbersAnd t ρ = t .e0 ∷ t .e1 ∷ t .e2 ∷ t .e3 ∷ ρ
+
+abbrev numbers : Rotation → List ℤ
+numbers t = numbersAnd t []
 
 abbrev rayNumbers : Ray → List ℤ → List ℤ
 rayNumbers v ρ = v .x ∷ v .y ∷ v .z ∷ ρ
@@ -158,12 +158,17 @@ column3 t = ray (row1 t .z) (row2 t .z) (row3 t .z)
 abbrev pub rowTimes : Ray → Rotation → Ray
 rowTimes r t = ray (dot r (column1 t)) (dot r (column2 t)) (dot r (column3 t))
 
+abbrev column1E : RotationE → RayE
+column1E t = record { x = row1E t .x; y = row2E t .x; z = row3E t .x }
+
+abbrev column2E : RotationE → RayE
+column2E t = record { x = row1E t .y; y = row2E t .y; z = row3E t .y }
+
+abbrev column3E : RotationE → RayE
+column3E t = record { x = row1E t .z; y = row2E t .z; z = row3E t .z }
+
 abbrev rowTimesE : RayE → RotationE → RayE
-rowTimesE r t = record {
-  x = dotE r (record { x = row1E t .x; y = row2E t .x; z = row3E t .x });
-  y = dotE r (record { x = row1E t .y; y = row2E t .y; z = row3E t .y });
-  z = dotE r (record { x = row1E t .z; y = row2E t .z; z = row3E t .z });
-}
+rowTimesE r t = record { x = dotE r (column1E t); y = dotE r (column2E t); z = dotE r (column3E t) }
 
 pub record MatrixProduct (a b : Rotation) : Type 0 where
   pub in-row1 : row1 (product a b) ≡ rowTimes (row1 a) b
@@ -284,17 +289,17 @@ sum-inverse t = rw (natAbs-neg (t .e1), natAbs-neg (t .e2), natAbs-neg (t .e3))
 inverse-product : (t : Rotation) → product (inverse t) t ≡ multiple (pos (sumOfSquares t)) identity
 unfolding product inverse multiple
 inverse-product t = subst (λ S. product (inverse t) t ≡ rotation (S *ℤ pos 1) (S *ℤ pos 0) (S *ℤ pos 0) (S *ℤ pos 0)) (sym (sum-ℤ t))
-    (rotation-eq (line (p .e0) (S ⊗ con (pos 1)) tt) (line (p .e1) (S ⊗ con (pos 0)) tt) (line (p .e2) (S ⊗ con (pos 0)) tt)
-    (line (p .e3) (S ⊗ con (pos 0)) tt))
+    (rotation-eq
+    (solve (numbers t) (p .e0) (S ⊗ con (pos 1)) tt)
+    (solve (numbers t) (p .e1) (S ⊗ con (pos 0)) tt)
+    (solve (numbers t) (p .e2) (S ⊗ con (pos 0)) tt)
+    (solve (numbers t) (p .e3) (S ⊗ con (pos 0)) tt))
   where
     p : RotationE
     p = productE (inverseE (rotationE 0)) (rotationE 0)
 
     S : Expr
     S = sumOfSquaresE (rotationE 0)
-
-    line : (l r : Expr) → T (identical (numbers t) l r) → eval (numbers t) l ≡ eval (numbers t) r
-    line l r h = solve (numbers t) l r h
 
 pub inverse-inverse : (t : Rotation) → inverse (inverse t) ≡ t
 unfolding inverse
@@ -319,13 +324,10 @@ pub record Transposed (t : Rotation) : Type 0 where
 pub transposed : (t : Rotation) → Transposed t
 unfolding inverse
 transposed t = record {
-  in-row1 = solveRay (numbers t) (row1E (inverseE T0)) (record { x = row1E T0 .x; y = row2E T0 .x; z = row3E T0 .x }) tt tt tt;
-  in-row2 = solveRay (numbers t) (row2E (inverseE T0)) (record { x = row1E T0 .y; y = row2E T0 .y; z = row3E T0 .y }) tt tt tt;
-  in-row3 = solveRay (numbers t) (row3E (inverseE T0)) (record { x = row1E T0 .z; y = row2E T0 .z; z = row3E T0 .z }) tt tt tt;
+  in-row1 = solveRay (numbers t) (row1E (inverseE (rotationE 0))) (column1E (rotationE 0)) tt tt tt;
+  in-row2 = solveRay (numbers t) (row2E (inverseE (rotationE 0))) (column2E (rotationE 0)) tt tt tt;
+  in-row3 = solveRay (numbers t) (row3E (inverseE (rotationE 0))) (column3E (rotationE 0)) tt tt tt;
 }
-  where
-    T0 : RotationE
-    T0 = rotationE 0
 
 -- ---- lengths: |R·r|² = S²·|r|²
 
