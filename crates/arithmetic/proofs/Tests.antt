@@ -64,6 +64,9 @@ and4 a b c d t = record {
 pub all3 : (a b c : Bool) → T a → T b → T c → T (a && b && c)
 all3 a b c s t u = and-both (a && b) c (and-both a b s t) u
 
+pub all4 : (a b c d : Bool) → T a → T b → T c → T d → T (a && b && c && d)
+all4 a b c d s t u v = and-both (a && b && c) d (all3 a b c s t u) v
+
 pub or-cases : (a b : Bool) → T (a || b) → T a ⊎ T b
 or-cases true b t = inl tt
 or-cases false b t = inr t

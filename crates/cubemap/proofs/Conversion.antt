@@ -25,9 +25,9 @@ use Rattle.cubemap.proofs.Layouts.{LayoutHolds, layout-holds}
 use Rattle.cubemap.proofs.Framed.{place-below}
 use Rattle.cubemap.proofs.Passed.{size-range, ConvertPassed, convert-passed, look-up-accepted}
 use Rattle.cubemap.proofs.Samplers.{value-within, value-own}
-use Rattle.cubemap.proofs.Rotations.{sum-positive, multiple, rotated-multiple}
+use Rattle.cubemap.proofs.Rotations.{sum-positive, multiple, rotated-multiple, LeadsTo, leads-only}
 use Rattle.cubemap.proofs.RotatedRays.{RotatedRay, rotated-ray, place-ray}
-use Rattle.cubemap.proofs.CubeRays.{PlaceOf, ray-cube, cube-place}
+use Rattle.cubemap.proofs.CubeRays.{PlaceOf, ray-apart, ray-cube, cube-place}
 use Rattle.cubemap.proofs.CubeRotations.{permuted, Permutes, cube-permutes, cube-permuted}
 
 -- ---- a nonzero multiple of a rotation leads to the same positions
@@ -95,10 +95,10 @@ rayIn z P = rayOf (formatOf (z .format)) (z .size) P
 pub record Step (z : Shape) (t : Rotation) (P : Place) : Type 0 where
   pub to : Place
   pub ok : IsPlace (z .size) to
-  pub ray : rotated t (rayIn z P) ≡ times (sumOfSquares t) (rayIn z to)
+  pub leads : LeadsTo t (rayIn z P) (rayIn z to)
 
 pub cube-step : (z : Shape) (t : Rotation) (P : Place) → z .size ≤ 512 → 0 < sumOfSquares t → CubeRotation t → IsPlace (z .size) P → Step z t P
-cube-step z t P a h c p = record { to = q .place; ok = q .ok; ray = m .is (rayIn z P) ∙ ap (times (sumOfSquares t)) (sym (q .ray)) }
+cube-step z t P a h c p = record { to = q .place; ok = q .ok; leads = m .leads (rayIn z P) ∙ ap (times (sumOfSquares t)) (sym (q .ray)) }
   where
     f : Format
     f = formatOf (z .format)
@@ -113,16 +113,23 @@ cube-step z t P a h c p = record { to = q .place; ok = q .ok; ray = m .is (rayIn
     q = cube-place f (z .size) k (permuted (m .by) (rayIn z P))
         (cube-permuted f (z .size) k (m .by) (rayIn z P) (ray-cube f (z .size) k P p))
 
+-- "exactly one place has that ray"
+pub led-only : (z : Shape) (t : Rotation) (P Q R : Place) → z .size ≤ 512 → 0 < sumOfSquares t → IsPlace (z .size) Q → IsPlace (z .size) R
+    → LeadsTo t (rayIn z P) (rayIn z Q) → LeadsTo t (rayIn z P) (rayIn z R) → Q ≡ R
+led-only z t P Q R a h q r e f =
+    ray-apart (formatOf (z .format)) (z .size) (coordinates (formatOf (z .format)) (z .size) a) Q R q r
+    (leads-only t (rayIn z P) (rayIn z Q) (rayIn z R) h e f)
+
 -- where a rotation leads to the place Q, the position that is read is its middle
 pub led-position : (z : Shape) (t : Rotation) (P Q : Place) → z .size ≤ 512 → 0 < sumOfSquares t → IsPlace (z .size) Q
-    → rotated t (rayIn z P) ≡ times (sumOfSquares t) (rayIn z Q) → sourcePosition z t (rayIn z P) ≡ middleOf Q
+    → LeadsTo t (rayIn z P) (rayIn z Q) → sourcePosition z t (rayIn z P) ≡ middleOf Q
 unfolding sourcePosition
 led-position z t P Q a h q e =
     ap (locate (formatOf (z .format)) (z .size)) e ∙ locate-own-times (formatOf (z .format)) (z .size) (sumOfSquares t) Q a h q
 
 -- and the value is the sample there, with either sampler
 pub led-value : (z : Shape) (L bytes : List ℕ) (sampler : ℕ) (t : Rotation) (P Q : Place) → z .size ≤ 512 → 0 < sumOfSquares t → LayoutHolds L
-    → T (samplesOK z bytes) → IsPlace (z .size) Q → rotated t (rayIn z P) ≡ times (sumOfSquares t) (rayIn z Q)
+    → T (samplesOK z bytes) → IsPlace (z .size) Q → LeadsTo t (rayIn z P) (rayIn z Q)
     → valueAt z L bytes sampler (sourcePosition z t (rayIn z P)) ≡ sampleAtPlace bytes (z .size) L Q
 unfolding valueAt
 led-value z L bytes sampler t P Q a h o b q e =
@@ -131,8 +138,7 @@ led-value z L bytes sampler t P Q a h o b q e =
 
 -- of a conversion that has passed its checks, to a frame of the source's shape
 pub converted-own : (s : ConvertSettings) (n m : ℕ) (source : List ℕ) (P Q : Place) → ConvertPassed s n m source → targetShape s ≡ s .sourceShape
-    → IsPlace (s .sourceShape .size) Q
-    → rotated (s .rotation) (rayIn (s .sourceShape) P) ≡ times (sumOfSquares (s .rotation)) (rayIn (s .sourceShape) Q)
+    → IsPlace (s .sourceShape .size) Q → LeadsTo (s .rotation) (rayIn (s .sourceShape) P) (rayIn (s .sourceShape) Q)
     → convertedSample s source P ≡ sampleAtPlace source (s .sourceShape .size) (s .sourceLayout) Q
 unfolding convertedSample targetShape
 converted-own s n m source P Q c same q e =
@@ -146,7 +152,7 @@ pub converted-cube : (s : ConvertSettings) (n m : ℕ) (source : List ℕ) (P : 
     → CubeRotation (s .rotation) → (p : IsPlace (s .sourceShape .size) P)
     → (Q : Step (s .sourceShape) (s .rotation) P)
     × (convertedSample s source P ≡ sampleAtPlace source (s .sourceShape .size) (s .sourceLayout) (Q .to))
-converted-cube s n m source P c same cube p = (Q, converted-own s n m source P (Q .to) c same (Q .ok) (Q .ray))
+converted-cube s n m source P c same cube p = (Q, converted-own s n m source P (Q .to) c same (Q .ok) (Q .leads))
   where
     Q : Step (s .sourceShape) (s .rotation) P
     Q = cube-step (s .sourceShape) (s .rotation) P (size-range (s .sourceShape .size) (c .source-size) .at-most)

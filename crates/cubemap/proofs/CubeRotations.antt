@@ -19,7 +19,7 @@ use Rattle.cubemap.specs.declared.Rotation.{Rotation}
 use Rattle.cubemap.specs.PlaceToRay.{ray, times}
 use Rattle.cubemap.specs.Rotations.{sumOfSquares, row1, row2, row3, dot, rotated, cubeEntry, cubeRow, isCubeRotation, CubeRotation}
 use Rattle.cubemap.proofs.FaceCoordinates.{Coordinates}
-use Rattle.cubemap.proofs.Rotations.{ray-eq, rayE, dotE, sizeSquared, rotated-size, column1, column2, column3}
+use Rattle.cubemap.proofs.Rotations.{ray-eq, rayE, dotE, LeadsTo, sizeSquared, rotated-size, column1, column2, column3}
 use Rattle.cubemap.proofs.Rotations.{inverse, inverse-inverse, sum-inverse, Transposed, transposed}
 use Rattle.cubemap.proofs.CubeRays.{Inner, Outer, CubeRay, alongX, alongY, alongZ, inner-neg, outer-neg}
 
@@ -250,7 +250,7 @@ line S r h e n = go (e .first) (e .second) (e .third)
 -- one permutation for all rays
 pub record Permutes (t : Rotation) : Type 0 where
   pub by : Permutation
-  pub is : (v : Ray) → rotated t v ≡ times (sumOfSquares t) (permuted by v)
+  pub leads : (v : Ray) → LeadsTo t v (permuted by v)
 
 module _ (t : Rotation) (h : 0 < sumOfSquares t) (w : CubeMatrix t) where
   abbrev S : ℕ
@@ -262,7 +262,7 @@ module _ (t : Rotation) (h : 0 < sumOfSquares t) (w : CubeMatrix t) where
   unfolding rotated times permuted
   permutes o e a b c = record {
     by = record { order = o; flipX = a .flip; flipY = b .flip; flipZ = c .flip };
-    is = λ v. ray-eq
+    leads = λ v. ray-eq
         (a .is v ∙ ap (λ r. pos S *ℤ flipped (a .flip) (r .x)) (sym (e v)))
         (b .is v ∙ ap (λ r. pos S *ℤ flipped (b .flip) (r .y)) (sym (e v)))
         (c .is v ∙ ap (λ r. pos S *ℤ flipped (c .flip) (r .z)) (sym (e v)));

@@ -10,19 +10,18 @@ use native.Mathlib.Omega.{arith}
 use lib.Dec.{T, eqb, eqb→eq}
 use borrow.Author.Tests.{eq-eqb}
 use lib.IntN.{ℤ, pos, negsuc, negℤ, natAbs, _*ℤ_}
-use Rattle.arithmetic.specs.Integers.{withSignOf}
+use Rattle.arithmetic.specs.Integers.{withSignOf, equalℤ}
 use Rattle.arithmetic.specs.Searches.{largest}
-use Rattle.arithmetic.proofs.Tests.{passes, true-not-false, and-left, and-right, All4, and4}
+use Rattle.arithmetic.proofs.Tests.{passes, true-not-false, and-left, and-right, All4, and4, all4}
 use Rattle.arithmetic.proofs.Integers.{mul-neg}
-use Rattle.arithmetic.proofs.Sizes.{natAbs-neg, natAbs-mul, own-sign}
+use Rattle.arithmetic.proofs.Sizes.{natAbs-neg, natAbs-mul, own-sign, equalℤ→eq, equalℤ-refl}
 use Rattle.arithmetic.proofs.Ring.{var, _⊗_, ⊖, solve}
 use Rattle.arithmetic.proofs.Searches.{IsLargest, largest-is}
 use Rattle.cubemap.specs.declared.Ray.{Ray}
 use Rattle.cubemap.specs.declared.Rotation.{Rotation}
-use Rattle.cubemap.specs.PlaceToRay.{times}
-use Rattle.cubemap.specs.Rotations.{rotation, sumOfSquares, rotated, product, dividesAll, commonDivisor, dividedBy, divided}
-use Rattle.cubemap.specs.Rotations.{leadNegative, firstNegative, opposite, signNormalized, reduced, compose}
-use Rattle.cubemap.proofs.Rotations.{rotation-eq, multiple, sum-multiple, sum-product, rotated-multiple, rotated-product}
+use Rattle.cubemap.specs.Rotations.{rotation, sumOfSquares, product, dividesAll, commonDivisor, dividedBy, divided}
+use Rattle.cubemap.specs.Rotations.{leadNegative, firstNegative, opposite, signNormalized, reduced, compose, sameNumbers, sameRotation}
+use Rattle.cubemap.proofs.Rotations.{rotation-eq, multiple, sum-multiple, sum-product, LeadsTo, multiple-leads, leads-multiple, product-leads}
 
 -- ---- numbers that divide all four
 
@@ -283,21 +282,42 @@ compose-positive a b p q = right (natAbs (m .by) * natAbs (m .by)) (sumOfSquares
     right k zero h = absurd (omega arith)
     right k (suc n) h = omega arith
 
--- a composition, times a positive number, rotates as the first after the later does
-pub record RotatesAs (a b : Rotation) : Type 0 where
-  pub factor : ℕ
-  pub positive : 0 < factor
-  pub is : (v : Ray) → rotated a (rotated b v) ≡ times factor (rotated (compose a b) v)
+-- a composition leads where its second, the later, and then its first lead
+pub compose-leads : (a b : Rotation) (u v w : Ray) → LeadsTo b u v → LeadsTo a v w → LeadsTo (compose a b) u w
+compose-leads a b u v w e f =
+    let m = compose-multiple a b in
+    leads-multiple (m .by) (compose a b) u w (m .by-nonzero) (subst (λ t. LeadsTo t u w) (m .is) (product-leads a b u v w e f))
 
-pub compose-rotates : (a b : Rotation) → RotatesAs a b
-compose-rotates a b = record {
-  factor = natAbs (m .by) * natAbs (m .by);
-  positive = mul-pos (m .by-nonzero) (m .by-nonzero);
-  is = λ v. sym (rotated-product a b v) ∙ ap (λ t. rotated t v) (m .is) ∙ rotated-multiple (m .by) (compose a b) v;
-}
+-- ---- "Two turns are equal when both, so reduced, are the same."
+
+pub same-is : (a b : Rotation) → T (sameRotation a b) → reduced a ≡ reduced b
+unfolding sameRotation
+same-is a b t = go (reduced a) (reduced b) t
   where
-    m : Multiple (product a b) (compose a b)
-    m = compose-multiple a b
+    go : (u v : Rotation) → T (sameNumbers u v) → u ≡ v
+    go u v t =
+        let w = and4 (equalℤ (u .e0) (v .e0)) (equalℤ (u .e1) (v .e1)) (equalℤ (u .e2) (v .e2)) (equalℤ (u .e3) (v .e3)) t in
+        rotation-eq
+        (equalℤ→eq (u .e0) (v .e0) (w .first))
+        (equalℤ→eq (u .e1) (v .e1) (w .second))
+        (equalℤ→eq (u .e2) (v .e2) (w .third))
+        (equalℤ→eq (u .e3) (v .e3) (w .fourth))
+
+pub same-of : (a b : Rotation) → reduced a ≡ reduced b → T (sameRotation a b)
+unfolding sameRotation
+same-of a b e = subst (λ u. T (sameNumbers (reduced a) u)) e (own (reduced a))
+  where
+    own : (u : Rotation) → T (sameNumbers u u)
+    own u = all4 (equalℤ (u .e0) (u .e0)) (equalℤ (u .e1) (u .e1)) (equalℤ (u .e2) (u .e2)) (equalℤ (u .e3) (u .e3))
+        (equalℤ-refl (u .e0)) (equalℤ-refl (u .e1)) (equalℤ-refl (u .e2)) (equalℤ-refl (u .e3))
+
+-- equal rotations lead to the same rays
+pub same-leads : (a b : Rotation) (v w : Ray) → T (sameRotation a b) → LeadsTo a v w → LeadsTo b v w
+same-leads a b v w t e =
+    let m = reduced-multiple a in
+    let n = reduced-multiple b in
+    let r : LeadsTo (reduced a) v w = leads-multiple (m .by) (reduced a) v w (m .by-nonzero) (subst (λ u. LeadsTo u v w) (m .is) e) in
+    subst (λ u. LeadsTo u v w) (sym (n .is)) (multiple-leads (n .by) (reduced b) v w (subst (λ u. LeadsTo u v w) (same-is a b t) r))
 
 -- ---- the sign: "if its first nonzero number is negative, all four change sign"
 

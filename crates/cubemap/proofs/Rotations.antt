@@ -4,7 +4,7 @@ use mathlib.Core.Path.{_≡_, refl, sym, _∙_, ap, ap₂, subst}
 use mathlib.Core.Bool.{Bool, _&&_, not}
 use mathlib.Core.List.{List, [], _∷_}
 use Prim.Native.Nat.{ℕ, zero, suc, _+_, _*_, _≤_, _<_}
-use native.Mathlib.Nat.{mul-pos, mul-le-mul}
+use native.Mathlib.Nat.{mul-comm, mul-pos, mul-le-mul}
 use native.Mathlib.Omega.{arith}
 use lib.Dec.{T, eqb, leb, leb→le}
 use lib.IntN.{ℤ, pos, negℤ, natAbs, _+ℤ_, _*ℤ_, negℤ-negℤ}
@@ -257,17 +257,30 @@ rotated-multiple k t v =
     (timesE (var 7 ⊗ var 7) (rotatedE (rotationE 0) (rayE 4))) tt tt tt
     ∙ ap (λ n. ray (n *ℤ dot (row1 t) v) (n *ℤ dot (row2 t) v) (n *ℤ dot (row3 t) v)) (square k)
 
--- so a nonzero multiple leads from each ray to the same ray: R·r is S times w for both or for neither
-pub multiple-leads : (k : ℤ) (t : Rotation) (v w : Ray) → rotated t v ≡ times (sumOfSquares t) w
-    → rotated (multiple k t) v ≡ times (sumOfSquares (multiple k t)) w
+-- ---- where a rotation leads: from the ray v to the ray R·v/S
+
+abbrev pub LeadsTo : Rotation → Ray → Ray → Type 0
+LeadsTo t v w = rotated t v ≡ times (sumOfSquares t) w
+
+-- a nonzero multiple leads to the same rays
+pub multiple-leads : (k : ℤ) (t : Rotation) (v w : Ray) → LeadsTo t v w → LeadsTo (multiple k t) v w
 multiple-leads k t v w e =
     rotated-multiple k t v ∙ ap (times (natAbs k * natAbs k)) e ∙ times-times (natAbs k * natAbs k) (sumOfSquares t) w
     ∙ ap (λ n. times n w) (sym (sum-multiple k t))
 
-pub leads-multiple : (k : ℤ) (t : Rotation) (v w : Ray) → 0 < natAbs k → rotated (multiple k t) v ≡ times (sumOfSquares (multiple k t)) w
-    → rotated t v ≡ times (sumOfSquares t) w
+pub leads-multiple : (k : ℤ) (t : Rotation) (v w : Ray) → 0 < natAbs k → LeadsTo (multiple k t) v w → LeadsTo t v w
 leads-multiple k t v w h e = times-cancel (natAbs k * natAbs k) (rotated t v) (times (sumOfSquares t) w) (mul-pos h h)
     (sym (rotated-multiple k t v) ∙ e ∙ ap (λ n. times n w) (sum-multiple k t) ∙ sym (times-times (natAbs k * natAbs k) (sumOfSquares t) w))
+
+-- a product leads where its second and then its first lead
+pub product-leads : (a b : Rotation) (u v w : Ray) → LeadsTo b u v → LeadsTo a v w → LeadsTo (product a b) u w
+product-leads a b u v w e f =
+    rotated-product a b u ∙ ap (rotated a) e ∙ rotated-times (sumOfSquares b) a v ∙ ap (times (sumOfSquares b)) f
+    ∙ times-times (sumOfSquares b) (sumOfSquares a) w ∙ ap (λ n. times n w) (mul-comm (sumOfSquares b) (sumOfSquares a) ∙ sym (sum-product a b))
+
+-- no rotation but (0, 0, 0, 0) leads to two rays
+pub leads-only : (t : Rotation) (u v w : Ray) → 0 < sumOfSquares t → LeadsTo t u v → LeadsTo t u w → v ≡ w
+leads-only t u v w h e f = times-cancel (sumOfSquares t) v w h (sym e ∙ f)
 
 -- ---- the identity and the inverse
 
@@ -314,6 +327,16 @@ pub rotated-inverse : (t : Rotation) (v : Ray) → rotated t (rotated (inverse t
 rotated-inverse t v =
     ap (λ u. rotated u (rotated (inverse t) v)) (sym (inverse-inverse t)) ∙ inverse-rotated (inverse t) v
     ∙ ap (λ n. times (n * n) v) (sum-inverse t)
+
+-- the inverse leads back
+pub inverse-leads : (t : Rotation) (v w : Ray) → 0 < sumOfSquares t → LeadsTo t v w → LeadsTo (inverse t) w v
+inverse-leads t v w h e =
+    times-cancel S (rotated (inverse t) w) (times S v) h
+    (sym (rotated-times S (inverse t) w) ∙ ap (rotated (inverse t)) (sym e) ∙ inverse-rotated t v ∙ sym (times-times S S v))
+    ∙ ap (λ n. times n v) (sym (sum-inverse t))
+  where
+    S : ℕ
+    S = sumOfSquares t
 
 -- the inverse's matrix is the transposed one
 pub record Transposed (t : Rotation) : Type 0 where

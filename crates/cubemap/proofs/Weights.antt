@@ -21,12 +21,12 @@ use Rattle.cubemap.specs.declared.Place.{Place}
 use Rattle.cubemap.specs.declared.Ray.{Ray}
 use Rattle.cubemap.specs.declared.Rotation.{Rotation}
 use Rattle.cubemap.specs.Frames.{IsPlace}
-use Rattle.cubemap.specs.PlaceToRay.{fromCentre, scale, faceCoordinate, times, rayOf}
-use Rattle.cubemap.specs.Rotations.{sumOfSquares, rotated, CubeRotation}
+use Rattle.cubemap.specs.PlaceToRay.{fromCentre, scale, faceCoordinate, rayOf}
+use Rattle.cubemap.specs.Rotations.{sumOfSquares, CubeRotation}
 use Rattle.cubemap.specs.Score.{weightOf, weight}
 use Rattle.cubemap.proofs.FaceCoordinates.{fromCentre-mirror, Coordinates}
 use Rattle.cubemap.proofs.Faces.{overSizes, table3-sizes}
-use Rattle.cubemap.proofs.Rotations.{times-cancel}
+use Rattle.cubemap.proofs.Rotations.{LeadsTo, leads-only}
 use Rattle.cubemap.proofs.CubeRotations.{Order, xyz, xzy, yxz, yzx, zxy, zyx, inOrder, flipped, Permutation, permuted, Permutes, cube-permutes}
 
 -- ---- the largest whole number under equation 109
@@ -196,9 +196,9 @@ module _ (format : Format) (A : ℕ) (k : Coordinates format A) where
           ∙ s .swap (Q .row) (P .row) ∙ level-column w s (P .row) (Q .column) (Q .row) (p .row-ok) (q .column-ok) r
 
   pub led-level : (t : Rotation) (P Q : Place) → 0 < sumOfSquares t → CubeRotation t → IsPlace A P → IsPlace A Q
-      → rotated t (rayOf format A P) ≡ times (sumOfSquares t) (rayOf format A Q) → Level A P Q
+      → LeadsTo t (rayOf format A P) (rayOf format A Q) → Level A P Q
   led-level t P Q h c p q e = permuted-level (m .by) P Q p q
-      (times-cancel (sumOfSquares t) (rayOf format A Q) (permuted (m .by) (rayOf format A P)) h (sym e ∙ m .is (rayOf format A P)))
+      (leads-only t (rayOf format A P) (rayOf format A Q) (permuted (m .by) (rayOf format A P)) h e (m .leads (rayOf format A P)))
     where
       m : Permutes t
       m = cube-permutes t h c
