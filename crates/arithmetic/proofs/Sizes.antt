@@ -1,11 +1,11 @@
 -- Sizes and signs of whole numbers: of products, sums and differences, and a size with a sign.
-use mathlib.Core.Path.{_≡_, refl, sym, _∙_, ap, subst}
-use mathlib.Core.Bool.{Bool, true, false, cond}
+use mathlib.Core.Path.{_≡_, refl, sym, _∙_, ap}
+use mathlib.Core.Bool.{Bool, true, false}
 use Prim.Native.Nat.{ℕ, zero, suc, _+_, _*_, _-_, _≤_, _<_}
 use native.Mathlib.Nat.{eq-of-mul-eq-mul-left, mul-pos, zero-lt-suc, le-refl}
 use native.Mathlib.Omega.{arith}
 use lib.Dec.{T, eqb→eq, eqb-refl, ltb, ltb→lt, nltb→le}
-use lib.IntN.{ℤ, pos, negsuc, negℤ, natAbs, subℕ, _+ℤ_, _-ℤ_, _*ℤ_, negℤ-negℤ, negℤ-+ℤ, +ℤ-comm, -ℤ-+ℤ-cancel, pos-ne-negsuc}
+use lib.IntN.{ℤ, pos, negsuc, negℤ, natAbs, _+ℤ_, _-ℤ_, _*ℤ_, negℤ-negℤ, negℤ-+ℤ, +ℤ-comm, -ℤ-+ℤ-cancel, pos-ne-negsuc}
 use Rattle.arithmetic.specs.Integers.{withSignOf, isPositive, isNegative, equalℤ}
 
 -- ---- sizes
@@ -93,17 +93,10 @@ difference-inj a b c h = pos-inj a b (sym (-ℤ-+ℤ-cancel (pos a) (pos c)) ∙
 
 -- ---- sums
 
-natAbs-sub : (a b : ℕ) → natAbs (subℕ a b) ≤ a + b
-natAbs-sub a b = go (ltb a b) refl
-  where
-    go : (t : Bool) → ltb a b ≡ t → natAbs (cond t (negsuc (b - suc a)) (pos (a - b))) ≤ a + b
-    go true e = let h : a < b = ltb→lt a b (subst T (sym e) tt) in omega arith
-    go false e = omega arith
-
 pub natAbs-add : (x y : ℤ) → natAbs (x +ℤ y) ≤ natAbs x + natAbs y
 natAbs-add (pos a) (pos b) = le-refl (a + b)
-natAbs-add (pos a) (negsuc b) = natAbs-sub a (suc b)
-natAbs-add (negsuc a) (pos b) = let h = natAbs-sub b (suc a) in omega arith
+natAbs-add (pos a) (negsuc b) = difference-small a (suc b) (a + suc b) (omega arith) (omega arith)
+natAbs-add (negsuc a) (pos b) = difference-small b (suc a) (suc a + b) (omega arith) (omega arith)
 natAbs-add (negsuc a) (negsuc b) = omega arith
 
 -- a number of size at most e, with e added, is a natural number

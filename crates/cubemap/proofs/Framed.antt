@@ -63,18 +63,18 @@ sample-framed f (suc n) i b h = go (ℕ-discrete i n) (λ l. sample-framed f n i
 
 -- ---- the bytes of a plane of face size A in the layout L, with the sample g P at the place P
 
-abbrev pub painted : ℕ → List ℕ → (Place → ℕ) → List ℕ
-painted A L g = framed (λ i. g (placeAt A L i)) (planeSamples A)
+abbrev pub planeOf : ℕ → List ℕ → (Place → ℕ) → List ℕ
+planeOf A L g = framed (λ i. g (placeAt A L i)) (planeSamples A)
 
 module _ (A : ℕ) (L : List ℕ) (o : LayoutHolds L) where
-  pub sample-painted : (g : Place → ℕ) (P : Place) → ((Q : Place) → IsPlace A Q → g Q < 65536) → IsPlace A P
-      → sampleAtPlace (painted A L g) A L P ≡ g P
-  sample-painted g P b p =
+  pub sample-planeOf : (g : Place → ℕ) (P : Place) → ((Q : Place) → IsPlace A Q → g Q < 65536) → IsPlace A P
+      → sampleAtPlace (planeOf A L g) A L P ≡ g P
+  sample-planeOf g P b p =
       sample-framed (λ i. g (placeAt A L i)) (planeSamples A) (index A L P) (λ i l. b (placeAt A L i) (placeAt-ok A L o i l)) (index-ok A L o P p)
       ∙ ap g (placeAt-index A L o P p)
 
-  pub painted-cong : (f g : Place → ℕ) → ((P : Place) → IsPlace A P → f P ≡ g P) → painted A L f ≡ painted A L g
-  painted-cong f g h =
+  pub planeOf-cong : (f g : Place → ℕ) → ((P : Place) → IsPlace A P → f P ≡ g P) → planeOf A L f ≡ planeOf A L g
+  planeOf-cong f g h =
       framed-cong (λ i. f (placeAt A L i)) (λ i. g (placeAt A L i)) (planeSamples A) (λ i l. h (placeAt A L i) (placeAt-ok A L o i l))
 
 -- ---- checks 10 and 11

@@ -35,10 +35,22 @@ unfolding adjusted
 adjusted-positive Format.Cmp x d h = h
 adjusted-positive Format.Acp x d h = mul-pos (mul-pos {m = 25} (omega arith) h) h
 
--- the size of equation 14's numerator
-acp-size : (x : ℤ) (d : ℕ) → natAbs x ≤ d → natAbs (x *ℤ (pos (34 * d) -ℤ pos (9 * natAbs x))) ≡ bent d (natAbs x)
+-- equation 14's numerator, of a number x with the size c and the sign of p
+abbrev acp : ℕ → ℤ → ℤ
+acp d x = x *ℤ (pos (34 * d) -ℤ pos (9 * natAbs x))
+
+acp-is : (d : ℕ) (p : ℤ) (c : ℕ) → c ≤ d → acp d (withSignOf p c) ≡ withSignOf p (bent d c)
+acp-is d p c h =
+    ap (λ m. withSignOf p c *ℤ (pos (34 * d) -ℤ pos (9 * m))) (sign-size p c)
+    ∙ ap (λ z. withSignOf p c *ℤ z) (pos-sub (34 * d) (9 * c) (omega arith)) ∙ signed p
+  where
+    signed : (p : ℤ) → withSignOf p c *ℤ pos (34 * d - 9 * c) ≡ withSignOf p (bent d c)
+    signed (pos n) = refl
+    signed (negsuc n) = neg-mul (pos c) (pos (34 * d - 9 * c))
+
+acp-size : (x : ℤ) (d : ℕ) → natAbs x ≤ d → natAbs (acp d x) ≡ bent d (natAbs x)
 acp-size x d h =
-    natAbs-mul x (pos (34 * d) -ℤ pos (9 * natAbs x)) ∙ ap (λ z. natAbs x * natAbs z) (pos-sub (34 * d) (9 * natAbs x) (omega arith))
+    ap (λ z. natAbs (acp d z)) (sym (own-sign x)) ∙ ap natAbs (acp-is d x (natAbs x) h) ∙ sign-size x (bent d (natAbs x))
 
 -- |g| ≤ 1
 pub adjusted-small : (format : Format) (x : ℤ) (d : ℕ) → natAbs x ≤ d → natAbs (adjusted format x d .numerator) ≤ adjusted format x d .denominator
@@ -175,10 +187,9 @@ unfolding position64 adjusted
 position-times Format.Cmp A k x d h = positionOf-times A k x d h
 position-times Format.Acp A k x d h =
     ap₂ (λ n e. positionOf A (ratio n e)) numerators denominators
-    ∙ positionOf-times A (k * k) (x *ℤ (pos (34 * d) -ℤ pos (9 * natAbs x))) (25 * d * d) (mul-pos h h)
+    ∙ positionOf-times A (k * k) (acp d x) (25 * d * d) (mul-pos h h)
   where
-    numerators : pos k *ℤ x *ℤ (pos (34 * (k * d)) -ℤ pos (9 * natAbs (pos k *ℤ x)))
-        ≡ pos (k * k) *ℤ (x *ℤ (pos (34 * d) -ℤ pos (9 * natAbs x)))
+    numerators : acp (k * d) (pos k *ℤ x) ≡ pos (k * k) *ℤ acp d x
     numerators =
         ap (λ m. pos k *ℤ x *ℤ (pos (34 * (k * d)) -ℤ pos (9 * m))) (natAbs-mul (pos k) x)
         ∙ solve (pos k ∷ x ∷ pos d ∷ pos (natAbs x) ∷ [])
@@ -215,16 +226,6 @@ same-sign (negsuc n) a b c d =
     (var 0 ⊗ ⊖ (var 2) ⊝ var 1 ⊗ ⊖ (var 3)) (⊖ (var 0 ⊗ var 2 ⊝ var 1 ⊗ var 3)) tt)
     ∙ natAbs-neg (pos (a * c) -ℤ pos (b * d))
 
--- equation 14 of a number on the curve
-acp-numerator : (p : ℤ) (c : ℕ) → c ≤ N → withSignOf p c *ℤ (pos (34 * N) -ℤ pos (9 * natAbs (withSignOf p c))) ≡ withSignOf p (bent N c)
-acp-numerator p c h =
-    ap (λ m. withSignOf p c *ℤ (pos (34 * N) -ℤ pos (9 * m))) (sign-size p c)
-    ∙ ap (λ z. withSignOf p c *ℤ z) (pos-sub (34 * N) (9 * c) (omega arith)) ∙ signed p
-  where
-    signed : (p : ℤ) → withSignOf p c *ℤ pos (34 * N - 9 * c) ≡ withSignOf p (bent N c)
-    signed (pos n) = refl
-    signed (negsuc n) = neg-mul (pos c) (pos (34 * N - 9 * c))
-
 -- what the curve leaves out is below 34N·A, and 64 times that is below 25N²
 acp-gap : (A m : ℕ) → A ≤ 512 → m < A → let p : ℤ = fromCentre A m in
     64 * natAbs (pos A *ℤ withSignOf p (bent N (curve A (natAbs p))) -ℤ pos (25 * N * N) *ℤ p) < 25 * N * N
@@ -258,7 +259,7 @@ position-own Format.Cmp A m a h = own-position A m (fromCentre A m) A (subst (λ
     none : pos A *ℤ fromCentre A m -ℤ pos A *ℤ fromCentre A m ≡ pos 0
     none = +ℤ-invr (pos A *ℤ fromCentre A m)
 position-own Format.Acp A m a h =
-    ap (λ z. positionOf A (ratio z (25 * N * N))) (acp-numerator p (curve A (natAbs p)) (curve-is A (natAbs p) .bounded))
+    ap (λ z. positionOf A (ratio z (25 * N * N))) (acp-is N p (curve A (natAbs p)) (curve-is A (natAbs p) .bounded))
     ∙ own-position A m (withSignOf p (bent N (curve A (natAbs p)))) (25 * N * N) (acp-gap A m a h)
   where
     p : ℤ
