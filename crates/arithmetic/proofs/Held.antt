@@ -3,17 +3,19 @@
 -- numerals, `tt` decides.
 use mathlib.Core.Path.{_≡_, refl, sym, _∙_, ap, ap₂, subst}
 use mathlib.Core.Bool.{Bool, true, false}
-use Prim.Native.Nat.{ℕ, _+_, _*_, _^_, _≤_, _<_}
+use Prim.Native.Nat.{ℕ, suc, _+_, _*_, _^_, _≤_, _<_}
 use native.Mathlib.Nat.{le-trans, le-refl, mul-le-mul, add-le-add, lt-of-le-of-lt, div-le-self}
 use native.Mathlib.Omega.{arith}
-use lib.Dec.{T, ltb, ltb→lt}
-use lib.IntN.{ℤ, pos, negsuc, negℤ, natAbs, _+ℤ_, _-ℤ_, _*ℤ_}
+use lib.Dec.{T, ltb, ltb→lt, eqb, eqb→eq, eqb-refl}
+use borrow.Author.Tests.{ne-eqb}
+use lib.IntN.{ℤ, pos, negsuc, negℤ, natAbs, _+ℤ_, _-ℤ_, _*ℤ_, negℤ-+ℤ, -ℤ-+ℤ-cancel}
 use lib.Signed.{mag, ltZ, nonNeg, shrZ}
 use mir.Syntax.{w64}
 use mir.Val.{SFits, Fits, toZ, ofZ}
 use mir.Facts.{toZ-ofZ}
-use Rattle.arithmetic.specs.Integers.{floorDiv}
-use Rattle.arithmetic.proofs.Sizes.{natAbs-neg, natAbs-mul, natAbs-add}
+use Rattle.arithmetic.specs.Integers.{floorDiv, withSignOf, equalℤ}
+use Rattle.arithmetic.proofs.Tests.{same-test}
+use Rattle.arithmetic.proofs.Sizes.{natAbs-neg, natAbs-mul, natAbs-add, equalℤ→eq, equalℤ-refl}
 
 mag-natAbs : (z : ℤ) → mag z ≤ natAbs z
 mag-natAbs (pos n) = le-refl n
@@ -107,3 +109,47 @@ below-zero (negsuc n) e = tt
 pub not-below-zero : (x : ℤ) → ltZ x (pos 0) ≡ false → T (nonNeg x)
 not-below-zero (pos n) e = tt
 not-below-zero (negsuc n) e = subst T e tt
+
+-- ---- the size of any number, of the lowest too: one is added to a number below zero before its sign changes
+
+pub record BelowZero (x : ℤ) : Type 0 where
+  pub rest : ℕ
+  pub is : natAbs x ≡ rest + 1
+  pub small : rest < 2 ^ 63
+  pub next : x +ℤ pos 1 ≡ negℤ (pos rest)
+
+pub below-zero-is : (x : ℤ) → SFits w64 x → ltZ (toZ w64 (ofZ w64 x)) (pos 0) ≡ true → BelowZero x
+below-zero-is x f e = go x f (subst (λ z. ltZ z (pos 0) ≡ true) (toZ-ofZ f) e)
+  where
+    go : (x : ℤ) → SFits w64 x → ltZ x (pos 0) ≡ true → BelowZero x
+    go (pos n) f e = let h = ltb→lt n 0 (subst T (sym e) tt) in absurd (omega arith)
+    go (negsuc n) f e =
+        let s : suc n ≡ n + 1 = omega arith in
+        record {
+          rest = n;
+          is = s;
+          small = f .sfits;
+          next = ap (λ m. negℤ (pos m) +ℤ pos 1) s ∙ ap (λ z. z +ℤ pos 1) (negℤ-+ℤ (pos n) (pos 1)) ∙ -ℤ-+ℤ-cancel (negℤ (pos n)) (pos 1);
+        }
+
+-- the test of a sign that the machine makes, and a size with that sign
+pub sign-below : (x : ℤ) (c : ℕ) → ltZ x (pos 0) ≡ true → withSignOf x c ≡ negℤ (pos c)
+sign-below (pos n) c e = let h = ltb→lt n 0 (subst T (sym e) tt) in absurd (omega arith)
+sign-below (negsuc n) c e = refl
+
+pub sign-above : (x : ℤ) (c : ℕ) → ltZ x (pos 0) ≡ false → withSignOf x c ≡ pos c
+sign-above (pos n) c e = refl
+sign-above (negsuc n) c e = absurd (subst T e tt)
+
+-- ---- tests on bits
+
+-- two numbers have the same bits where they are equal
+pub bits-equal : (x y : ℤ) → SFits w64 x → SFits w64 y → eqb (ofZ w64 x) (ofZ w64 y) ≡ equalℤ x y
+bits-equal x y f g = same-test (eqb (ofZ w64 x) (ofZ w64 y)) (equalℤ x y)
+    (λ t. subst (λ z. T (equalℤ x z)) (sym (toZ-ofZ f) ∙ ap (toZ w64) (eqb→eq (ofZ w64 x) (ofZ w64 y) t) ∙ toZ-ofZ g) (equalℤ-refl x))
+    (λ t. subst (λ z. T (eqb (ofZ w64 x) (ofZ w64 z))) (equalℤ→eq x y t) (eqb-refl (ofZ w64 x)))
+
+-- and only 0 has the bits of 0
+pub bits-zero : (x : ℤ) → SFits w64 x → eqb (ofZ w64 x) 0 ≡ eqb (natAbs x) 0
+bits-zero (pos n) f = refl
+bits-zero (negsuc n) f = ne-eqb (ofZ w64 (negsuc n)) 0 (λ e. let h = f .sfits in absurd (omega arith)) ∙ sym (ne-eqb (suc n) 0 (λ e. absurd (omega arith)))

@@ -8,3 +8,4 @@ pub mod Held
 pub mod Searches
 pub mod Sums
 pub mod Tables
+pub mod Divisors

@@ -2,7 +2,7 @@
 use mathlib.Core.Path.{_≡_, refl, sym, _∙_, ap}
 use mathlib.Core.Bool.{Bool, true, false}
 use Prim.Native.Nat.{ℕ, zero, suc, _+_, _*_, _-_, _≤_, _<_}
-use native.Mathlib.Nat.{eq-of-mul-eq-mul-left, mul-pos, zero-lt-suc, le-refl}
+use native.Mathlib.Nat.{eq-of-mul-eq-mul-left, mul-pos, zero-lt-suc, le-refl, mul-le-mul, lt-of-not-le}
 use native.Mathlib.Omega.{arith}
 use lib.Dec.{T, eqb→eq, eqb-refl, ltb, ltb→lt, nltb→le}
 use lib.IntN.{ℤ, pos, negsuc, negℤ, natAbs, _+ℤ_, _-ℤ_, _*ℤ_, negℤ-negℤ, negℤ-+ℤ, +ℤ-comm, -ℤ-+ℤ-cancel, pos-ne-negsuc}
@@ -32,6 +32,13 @@ natAbs-zero (negsuc n) e = absurd (omega arith)
 pub square : (x : ℤ) → x *ℤ x ≡ pos (natAbs x * natAbs x)
 square (pos n) = refl
 square (negsuc n) = refl
+
+-- the greater square has the greater root
+pub root-strictly : (a b : ℕ) → a * a < b * b → a < b
+root-strictly a b h = lt-of-not-le (λ l. let g : b * b ≤ a * a = mul-le-mul l l in omega arith)
+
+pub root-below : (a b : ℕ) → a * a ≤ b * b → a ≤ b
+root-below a b h = let m = root-strictly a (suc b) (omega arith) in omega arith
 
 -- ---- differences of natural numbers
 

@@ -13,6 +13,13 @@ fails e t = subst T e t
 pub true-not-false : true ≡ false → ⊥
 true-not-false e = subst T e tt
 
+-- two tests that pass together are one
+pub same-test : (a b : Bool) → (T a → T b) → (T b → T a) → a ≡ b
+same-test true true f g = refl
+same-test true false f g = absurd (f tt)
+same-test false true f g = absurd (g tt)
+same-test false false f g = refl
+
 -- ---- conjunctions
 
 pub and-left : (a b : Bool) → T (a && b) → T a

@@ -2,6 +2,7 @@
 pub mod Marked
 pub mod Examples
 pub mod Passed
+pub mod Ranges
 pub mod Layouts
 pub mod Indices
 pub mod Framed
@@ -9,6 +10,7 @@ pub mod Curves
 pub mod FaceCoordinates
 pub mod Rotations
 pub mod Reduction
+pub mod Folds
 pub mod Rounding
 pub mod Positions
 pub mod Faces

@@ -23,6 +23,15 @@ abbrev pub numbered : List Check → Bool
 numbered [] = true
 numbered (c ∷ cs) = not (eqb (c .number) 0) && numbered cs
 
+-- the first check, where it fails and where it holds
+pub first-fails : (c : Check) (cs : List Check) → c .holds ≡ false → firstFailed (c ∷ cs) ≡ answer (c .number) (c .index)
+unfolding firstFailed
+first-fails c cs e = rw e
+
+pub first-holds : (c : Check) (cs : List Check) → c .holds ≡ true → firstFailed (c ∷ cs) ≡ firstFailed cs
+unfolding firstFailed
+first-holds c cs e = rw e
+
 -- an accepted call has passed each check
 pub all-hold : (cs : List Check) → T (numbered cs) → T (isAccepted (firstFailed cs)) → AllHold cs
 unfolding firstFailed

@@ -1,26 +1,29 @@
 -- The fold: a rotation is ± its common divisor times what it is reduced to, every common divisor divides that one, and a composition rotates as the
 -- product does. Which of the two signs a reduction takes, only the last part of this module knows.
-use mathlib.Core.Path.{_≡_, refl, sym, _∙_, ap, subst}
-use mathlib.Core.Bool.{Bool, true, false, _&&_, cond}
+use mathlib.Core.Path.{_≡_, refl, sym, _∙_, ap, subst, subst₂}
+use mathlib.Core.Bool.{Bool, true, false, _&&_, _||_, cond}
 use mathlib.Core.List.{[], _∷_}
 use Prim.Native.Nat.{ℕ, zero, suc, _+_, _*_, _-_, _/_, _%_, _≤_, _<_, _∣_}
 use native.Mathlib.Nat.{mod-one, mod-eq-of-lt, div-add-mod', lt-of-not-le, mul-comm, mul-pos, mod-lt, dvd-zero, dvd-mul-left, dvd-mul-right}
-use native.Mathlib.Nat.{dvd-mod-iff, dvd-of-mod-eq-zero, mod-eq-zero-of-dvd, le-of-dvd, mul-dvd-mul-left, le-of-mul-le-mul-left}
+use native.Mathlib.Nat.{dvd-mod-iff, dvd-of-mod-eq-zero, mod-eq-zero-of-dvd, le-of-dvd, mul-dvd-mul-left, le-of-mul-le-mul-left, dvd-trans, div-le-self, le-trans}
 use native.Mathlib.Omega.{arith}
 use lib.Dec.{T, eqb, eqb→eq}
-use borrow.Author.Tests.{eq-eqb}
+use borrow.Author.Tests.{eq-eqb, ne-eqb, le-ltb}
 use lib.IntN.{ℤ, pos, negsuc, negℤ, natAbs, _*ℤ_}
+use lib.Signed.{ltZ}
 use Rattle.arithmetic.specs.Integers.{withSignOf, equalℤ}
 use Rattle.arithmetic.specs.Searches.{largest}
 use Rattle.arithmetic.proofs.Tests.{passes, true-not-false, and-left, and-right, All4, and4, all4}
 use Rattle.arithmetic.proofs.Integers.{mul-neg}
-use Rattle.arithmetic.proofs.Sizes.{natAbs-neg, natAbs-mul, own-sign, equalℤ→eq, equalℤ-refl}
+use Rattle.arithmetic.proofs.Sizes.{natAbs-neg, natAbs-mul, own-sign, sign-size, equalℤ→eq, equalℤ-refl}
+use Rattle.arithmetic.proofs.Divisors.{IsGcd, gcd-both-zero, gcd-zeros}
 use Rattle.arithmetic.proofs.Ring.{var, _⊗_, ⊖, solve}
 use Rattle.arithmetic.proofs.Searches.{IsLargest, largest-is}
 use Rattle.cubemap.specs.declared.Ray.{Ray}
 use Rattle.cubemap.specs.declared.Rotation.{Rotation}
 use Rattle.cubemap.specs.Rotations.{rotation, sumOfSquares, product, dividesAll, commonDivisor, dividedBy, divided}
 use Rattle.cubemap.specs.Rotations.{leadNegative, firstNegative, opposite, signNormalized, reduced, compose, sameNumbers, sameRotation}
+use Rattle.cubemap.proofs.Ranges.{Within}
 use Rattle.cubemap.proofs.Rotations.{rotation-eq, multiple, sum-multiple, sum-product, LeadsTo, multiple-leads, leads-multiple, product-leads}
 
 -- ---- numbers that divide all four
@@ -173,6 +176,61 @@ divisor-all t d h hd g = go (least-multiple d (commonDivisor t) hd (divisor-posi
         let e : m ≡ commonDivisor t = omega arith in
         subst (λ n. d ∣ n) e (l .left)
 
+-- ---- the divisor by pairs: of the first two numbers, of the last two, and of these two
+
+module _ (t : Rotation) (g01 g23 g : ℕ) (x : IsGcd (natAbs (t .e0)) (natAbs (t .e1)) g01) (y : IsGcd (natAbs (t .e2)) (natAbs (t .e3)) g23)
+    (z : IsGcd g01 g23 g) where
+  by-pairs : Divides t g
+  by-pairs = record {
+    d0 = mod-eq-zero-of-dvd g (dvd-trans g (z .left) (x .left));
+    d1 = mod-eq-zero-of-dvd g (dvd-trans g (z .left) (x .right));
+    d2 = mod-eq-zero-of-dvd g (dvd-trans g (z .right) (y .left));
+    d3 = mod-eq-zero-of-dvd g (dvd-trans g (z .right) (y .right));
+  }
+
+  pub divisor-by-pairs : 0 < g → commonDivisor t ≡ g
+  divisor-by-pairs h = go (sizes t) refl
+    where
+      d : ℕ
+      d = commonDivisor t
+
+      w : Divides t d
+      w = divisor-divides t
+
+      greatest : d ∣ g
+      greatest = z .greatest d
+          (x .greatest d (dvd-of-mod-eq-zero d (w .d0)) (dvd-of-mod-eq-zero d (w .d1)))
+          (y .greatest d (dvd-of-mod-eq-zero d (w .d2)) (dvd-of-mod-eq-zero d (w .d3)))
+
+      zeros : (a b n : ℕ) → a ≡ 0 → b ≡ 0 → IsGcd a b n → n ≡ 0
+      zeros a b n p q r = gcd-zeros n (subst₂ (λ k m. IsGcd k m n) p q r)
+
+      go : (n : ℕ) → sizes t ≡ n → d ≡ g
+      go zero e =
+          let l : g01 ≡ 0 = zeros (natAbs (t .e0)) (natAbs (t .e1)) g01 (omega arith) (omega arith) x in
+          let r : g23 ≡ 0 = zeros (natAbs (t .e2)) (natAbs (t .e3)) g23 (omega arith) (omega arith) y in
+          absurd (omega (arith, zeros g01 g23 g l r z))
+      go (suc n) e =
+          let up : g ≤ d = divisor-most t g (omega arith) by-pairs in
+          let down : d ≤ g = le-of-dvd h greatest in
+          omega arith
+
+  -- where all four numbers are 0, the divisor is 1
+  pub divisor-of-zeros : g ≡ 0 → commonDivisor t ≡ 1
+  divisor-of-zeros e = only (commonDivisor t) (divisor-is t .bounded) (divisor-positive t)
+    where
+      pairs : (g01 ≡ 0) × (g23 ≡ 0)
+      pairs = gcd-both-zero (subst (λ n. IsGcd g01 g23 n) e z)
+
+      front : (natAbs (t .e0) ≡ 0) × (natAbs (t .e1) ≡ 0)
+      front = gcd-both-zero (subst (λ n. IsGcd (natAbs (t .e0)) (natAbs (t .e1)) n) (pairs .0) x)
+
+      back : (natAbs (t .e2) ≡ 0) × (natAbs (t .e3) ≡ 0)
+      back = gcd-both-zero (subst (λ n. IsGcd (natAbs (t .e2)) (natAbs (t .e3)) n) (pairs .1) y)
+
+      only : (d : ℕ) → d ≤ suc (sizes t) → 0 < d → d ≡ 1
+      only d b p = let f = front in let k = back in omega arith
+
 -- ---- a rotation is a multiple of what it is reduced to
 
 pub record Multiple (t u : Rotation) : Type 0 where
@@ -204,6 +262,24 @@ divided-multiple t =
     (times-divided (t .e1) d (g .d1))
     (times-divided (t .e2) d (g .d2))
     (times-divided (t .e3) d (g .d3))
+
+-- the four quotients
+pub divided-numbers : (t : Rotation)
+    → divided t
+    ≡ rotation (dividedBy (commonDivisor t) (t .e0)) (dividedBy (commonDivisor t) (t .e1)) (dividedBy (commonDivisor t) (t .e2)) (dividedBy (commonDivisor t) (t .e3))
+unfolding divided
+divided-numbers t = refl
+
+-- no number's size grows
+pub divided-within : (B : ℕ) (t : Rotation) → Within B t → Within B (divided t)
+unfolding divided
+divided-within B t w = record { s0 = one (t .e0) (w .s0); s1 = one (t .e1) (w .s1); s2 = one (t .e2) (w .s2); s3 = one (t .e3) (w .s3) }
+  where
+    d : ℕ
+    d = commonDivisor t
+
+    one : (x : ℤ) → natAbs x ≤ B → natAbs (dividedBy d x) ≤ B
+    one x h = subst (λ n. n ≤ B) (sym (sign-size x (natAbs x / d))) (le-trans (div-le-self (natAbs x) d) h)
 
 -- a multiple of t is one of its opposite, by the opposite number
 multiple-opposite : (k : ℤ) (t : Rotation) → multiple k t ≡ multiple (negℤ k) (opposite t)
@@ -264,9 +340,13 @@ reduced-least t d h g = le-of-mul-le-mul-left {m = d} {n = 1} {k = commonDivisor
 
 -- ---- compositions
 
-pub compose-multiple : (a b : Rotation) → Multiple (product a b) (compose a b)
+-- the fold of a first and a later turn is their product, reduced
+pub compose-reduced : (a b : Rotation) → compose a b ≡ reduced (product a b)
 unfolding compose
-compose-multiple a b = reduced-multiple (product a b)
+compose-reduced a b = refl
+
+pub compose-multiple : (a b : Rotation) → Multiple (product a b) (compose a b)
+compose-multiple a b = subst (Multiple (product a b)) (sym (compose-reduced a b)) (reduced-multiple (product a b))
 
 -- a composition of rotations that are not zero is not zero
 pub compose-positive : (a b : Rotation) → 0 < sumOfSquares a → 0 < sumOfSquares b → 0 < sumOfSquares (compose a b)
@@ -289,6 +369,10 @@ compose-leads a b u v w e f =
     leads-multiple (m .by) (compose a b) u w (m .by-nonzero) (subst (λ t. LeadsTo t u w) (m .is) (product-leads a b u v w e f))
 
 -- ---- "Two turns are equal when both, so reduced, are the same."
+
+pub same-reduced : (a b : Rotation) → sameRotation a b ≡ sameNumbers (reduced a) (reduced b)
+unfolding sameRotation
+same-reduced a b = refl
 
 pub same-is : (a b : Rotation) → T (sameRotation a b) → reduced a ≡ reduced b
 unfolding sameRotation
@@ -320,6 +404,20 @@ same-leads a b v w t e =
     subst (λ u. LeadsTo u v w) (sym (n .is)) (multiple-leads (n .by) (reduced b) v w (subst (λ u. LeadsTo u v w) (same-is a b t) r))
 
 -- ---- the sign: "if its first nonzero number is negative, all four change sign"
+
+-- the test that code makes of each number in turn
+pub lead-is : (x : ℤ) (rest : Bool) → leadNegative x rest ≡ (ltZ x (pos 0) || (eqb (natAbs x) 0 && rest))
+lead-is (pos zero) rest = refl
+lead-is (pos (suc n)) rest = rw (le-ltb (suc n) 0 (omega arith), ne-eqb (suc n) 0 (λ e. absurd (omega arith)))
+lead-is (negsuc n) rest = refl
+
+pub sign-changed : (t : Rotation) → firstNegative t ≡ true → signNormalized t ≡ opposite t
+unfolding signNormalized
+sign-changed t e = rw e
+
+pub sign-kept : (t : Rotation) → firstNegative t ≡ false → signNormalized t ≡ t
+unfolding signNormalized
+sign-kept t e = rw e
 
 pub reduced-sign : (t : Rotation) → firstNegative (reduced t) ≡ false
 unfolding signNormalized

@@ -2,11 +2,12 @@
 use mathlib.Core.Path.{_≡_}
 use mathlib.Core.Bool.{Bool, _&&_}
 use Prim.Native.Nat.{ℕ, zero, _+_, _*_, _≤_, _<_}
-use native.Mathlib.Nat.{mul-le-mul, mul-pos, lt-of-not-le}
+use native.Mathlib.Nat.{mul-le-mul, mul-pos}
 use native.Mathlib.Omega.{arith}
-use lib.Dec.{T, leb, eqb, le→leb, eqb→eq, not-T}
+use lib.Dec.{T, eqb, eqb→eq, not-T}
 use lib.IntN.{ℤ, pos, natAbs}
-use Rattle.arithmetic.proofs.Tests.{All3, and3, all3}
+use Rattle.arithmetic.proofs.Tests.{All3, and3}
+use Rattle.arithmetic.proofs.Sizes.{root-strictly}
 use Rattle.cubemap.specs.declared.Format.{Format}
 use Rattle.cubemap.specs.declared.Place.{Place}
 use Rattle.cubemap.specs.declared.Ray.{Ray}
@@ -15,22 +16,18 @@ use Rattle.cubemap.specs.Frames.{IsPlace}
 use Rattle.cubemap.specs.PlaceToRay.{N, scale, faceCoordinate, rayOf}
 use Rattle.cubemap.specs.Rotations.{sumOfSquares, rotated}
 use Rattle.cubemap.specs.Checks.{rotationInRange, rotationNonzero, rayInRange, rayNonzero}
+use Rattle.cubemap.proofs.Ranges.{in-range-ray}
 use Rattle.cubemap.proofs.FaceCoordinates.{coordinates, scale-positive, scale-bounded}
 use Rattle.cubemap.proofs.Faces.{table3-sizes}
 use Rattle.cubemap.proofs.Rotations.{sizeSquared, rotated-size, sum-positive, sum-bounded}
 
 -- ---- checks 13 and 14 from the length of a ray
 
-root-below : (a b : ℕ) → a * a < b * b → a < b
-root-below a b h = lt-of-not-le (λ l. let g : b * b ≤ a * a = mul-le-mul l l in omega arith)
-
 pub size-in-range : (r : Ray) → sizeSquared r < 536870912 * 536870912 → T (rayInRange r)
-unfolding rayInRange
-size-in-range r h = all3 (leb (natAbs (r .x)) 536870911) (leb (natAbs (r .y)) 536870911) (leb (natAbs (r .z)) 536870911)
-    (number (r .x) (omega arith)) (number (r .y) (omega arith)) (number (r .z) (omega arith))
+size-in-range r h = in-range-ray r (record { x = number (r .x) (omega arith); y = number (r .y) (omega arith); z = number (r .z) (omega arith) })
   where
-    number : (z : ℤ) → natAbs z * natAbs z < 536870912 * 536870912 → T (leb (natAbs z) 536870911)
-    number z l = let m = root-below (natAbs z) 536870912 l in le→leb (natAbs z) 536870911 (omega arith)
+    number : (z : ℤ) → natAbs z * natAbs z < 536870912 * 536870912 → natAbs z ≤ 536870911
+    number z l = let m = root-strictly (natAbs z) 536870912 l in omega arith
 
 pub size-nonzero : (r : Ray) → 0 < sizeSquared r → T (rayNonzero r)
 unfolding rayNonzero

@@ -1,22 +1,22 @@
 -- Rotations as matrices: M(a·b) = M(a)·M(b), a multiple of a rotation leads where it does, every rotation has an inverse, and a rotated ray
 -- has S times the ray's length. They rest on identities between polynomials.
 use mathlib.Core.Path.{_≡_, refl, sym, _∙_, ap, ap₂, subst}
-use mathlib.Core.Bool.{Bool, _&&_, not}
+use mathlib.Core.Bool.{_&&_, not}
 use mathlib.Core.List.{List, [], _∷_}
 use Prim.Native.Nat.{ℕ, zero, suc, _+_, _*_, _≤_, _<_}
 use native.Mathlib.Nat.{mul-comm, mul-pos, mul-le-mul}
 use native.Mathlib.Omega.{arith}
-use lib.Dec.{T, eqb, leb, leb→le}
-use lib.IntN.{ℤ, pos, negℤ, natAbs, _+ℤ_, _*ℤ_, negℤ-negℤ}
-use Rattle.arithmetic.proofs.Tests.{All4, and4}
+use lib.Dec.{T, eqb}
+use lib.IntN.{ℤ, pos, negℤ, natAbs, _+ℤ_, _-ℤ_, _*ℤ_, negℤ-negℤ}
 use Rattle.arithmetic.proofs.Integers.{mul-assoc}
-use Rattle.arithmetic.proofs.Sizes.{pos-inj, natAbs-neg, natAbs-mul, square, mul-cancel}
+use Rattle.arithmetic.proofs.Sizes.{pos-inj, natAbs-neg, natAbs-mul, square, mul-cancel, root-below}
 use Rattle.arithmetic.proofs.Ring.{Expr, var, con, _⊕_, _⊗_, _⊝_, ⊖, eval, identical, solve}
 use Rattle.cubemap.specs.declared.Ray.{Ray}
 use Rattle.cubemap.specs.declared.Rotation.{Rotation}
 use Rattle.cubemap.specs.PlaceToRay.{ray, times}
 use Rattle.cubemap.specs.Rotations.{rotation, identity, sumOfSquares, row1, row2, row3, dot, rotated, product}
-use Rattle.cubemap.specs.Checks.{rotationInRange, rotationNonzero}
+use Rattle.cubemap.specs.Checks.{rotationInRange, rotationNonzero, rayInRange}
+use Rattle.cubemap.proofs.Ranges.{Within, RayWithin, rotation-range, in-range-rotation, ray-range, in-range-ray}
 
 pub ray-eq : {v w : Ray} → v .x ≡ w .x → v .y ≡ w .y → v .z ≡ w .z → v ≡ w
 ray-eq p q r = λ i. ray (p i) (q i) (r i)
@@ -129,18 +129,93 @@ sum-positive t h = go (natAbs (t .e0)) (natAbs (t .e1)) (natAbs (t .e2)) (natAbs
 
 -- check 6: it is at most 4·31²
 pub sum-bounded : (t : Rotation) → T (rotationInRange t) → sumOfSquares t ≤ 3844
-unfolding rotationInRange sumOfSquares
-sum-bounded t h = go (and4 (small (t .e0)) (small (t .e1)) (small (t .e2)) (small (t .e3)) h)
+unfolding sumOfSquares
+sum-bounded t h =
+    let w = rotation-range t h in
+    omega (arith, one (t .e0) (w .s0), one (t .e1) (w .s1), one (t .e2) (w .s2), one (t .e3) (w .s3))
   where
-    small : ℤ → Bool
-    small x = leb (natAbs x) 31
+    one : (x : ℤ) → natAbs x ≤ 31 → natAbs x * natAbs x ≤ 961
+    one x l = mul-le-mul {n₂ = 31} {m₂ = 31} l l
 
-    one : (x : ℤ) → T (leb (natAbs x) 31) → natAbs x * natAbs x ≤ 961
-    one x t = mul-le-mul {n₂ = 31} {m₂ = 31} (leb→le (natAbs x) 31 t) (leb→le (natAbs x) 31 t)
+-- no number's size is greater than a bound whose square is at least the sum
+pub sum-within : (B : ℕ) (t : Rotation) → sumOfSquares t ≤ B * B → Within B t
+unfolding sumOfSquares
+sum-within B t h = record {
+  s0 = root-below (natAbs (t .e0)) B (omega arith);
+  s1 = root-below (natAbs (t .e1)) B (omega arith);
+  s2 = root-below (natAbs (t .e2)) B (omega arith);
+  s3 = root-below (natAbs (t .e3)) B (omega arith);
+}
 
-    go : All4 (leb (natAbs (t .e0)) 31) (leb (natAbs (t .e1)) 31) (leb (natAbs (t .e2)) 31) (leb (natAbs (t .e3)) 31)
-        → natAbs (t .e0) * natAbs (t .e0) + natAbs (t .e1) * natAbs (t .e1) + natAbs (t .e2) * natAbs (t .e2) + natAbs (t .e3) * natAbs (t .e3) ≤ 3844
-    go w = omega (arith, one (t .e0) (w .first), one (t .e1) (w .second), one (t .e2) (w .third), one (t .e3) (w .fourth))
+-- ---- the three axes moved round: rotations and rays have no first axis
+
+abbrev pub nextAxis : Rotation → Rotation
+nextAxis t = rotation (t .e0) (t .e2) (t .e3) (t .e1)
+
+abbrev pub nextAxisRay : Ray → Ray
+nextAxisRay v = ray (v .y) (v .z) (v .x)
+
+abbrev nextAxisE : RotationE → RotationE
+nextAxisE t = record { e0 = t .e0; e1 = t .e2; e2 = t .e3; e3 = t .e1 }
+
+abbrev nextAxisRayE : RayE → RayE
+nextAxisRayE v = record { x = v .y; y = v .z; z = v .x }
+
+-- the first of the three, by its formula
+pub rotated-first : (t : Rotation) (v : Ray) → rotated t v .x ≡ dot (row1 t) v
+unfolding rotated
+rotated-first t v = refl
+
+pub product-first : (a b : Rotation) → product a b .e1 ≡ a .e0 *ℤ b .e1 +ℤ a .e1 *ℤ b .e0 +ℤ a .e2 *ℤ b .e3 -ℤ a .e3 *ℤ b .e2
+unfolding product
+product-first a b = refl
+
+-- the number without an axis
+pub product-axisless : (a b : Rotation) → product a b .e0 ≡ a .e0 *ℤ b .e0 -ℤ a .e1 *ℤ b .e1 -ℤ a .e2 *ℤ b .e2 -ℤ a .e3 *ℤ b .e3
+unfolding product
+product-axisless a b = refl
+
+-- and so the others, by moving the axes round
+rotated-next : (t : Rotation) (v : Ray) → rotated (nextAxis t) (nextAxisRay v) ≡ nextAxisRay (rotated t v)
+unfolding rotated
+rotated-next t v =
+    solveRay (numbersAnd t (rayNumbers v []))
+    (rotatedE (nextAxisE (rotationE 0)) (nextAxisRayE (rayE 4))) (nextAxisRayE (rotatedE (rotationE 0) (rayE 4))) tt tt tt
+
+product-next : (a b : Rotation) → product (nextAxis a) (nextAxis b) ≡ nextAxis (product a b)
+unfolding product
+product-next a b = rotation-eq (at (λ t. t .e0) tt) (at (λ t. t .e1) tt) (at (λ t. t .e2) tt) (at (λ t. t .e3) tt)
+  where
+    ρ : List ℤ
+    ρ = numbersAnd a (numbers b)
+
+    l : RotationE
+    l = productE (nextAxisE (rotationE 0)) (nextAxisE (rotationE 4))
+
+    r : RotationE
+    r = nextAxisE (productE (rotationE 0) (rotationE 4))
+
+    at : (f : RotationE → Expr) → T (identical ρ (f l) (f r)) → eval ρ (f l) ≡ eval ρ (f r)
+    at f t = solve ρ (f l) (f r) t
+
+pub rotated-axes : (t : Rotation) (v : Ray)
+    → rotated t v ≡ ray (rotated t v .x) (rotated (nextAxis t) (nextAxisRay v) .x) (rotated (nextAxis (nextAxis t)) (nextAxisRay (nextAxisRay v)) .x)
+rotated-axes t v = ray-eq refl (sym (ap (λ w. w .x) (rotated-next t v)))
+    (sym (ap (λ w. w .x) (rotated-next (nextAxis t) (nextAxisRay v)) ∙ ap (λ w. w .y) (rotated-next t v)))
+
+pub product-axes : (a b : Rotation)
+    → product a b
+    ≡ rotation (product a b .e0) (product a b .e1) (product (nextAxis a) (nextAxis b) .e1) (product (nextAxis (nextAxis a)) (nextAxis (nextAxis b)) .e1)
+product-axes a b = rotation-eq refl refl (sym (ap (λ t. t .e1) (product-next a b)))
+    (sym (ap (λ t. t .e1) (product-next (nextAxis a) (nextAxis b)) ∙ ap (λ t. t .e2) (product-next a b)))
+
+pub next-in-range : (t : Rotation) → T (rotationInRange t) → T (rotationInRange (nextAxis t))
+next-in-range t h =
+    let w = rotation-range t h in
+    in-range-rotation (nextAxis t) (record { s0 = w .s0; s1 = w .s2; s2 = w .s3; s3 = w .s1 })
+
+pub next-ray-in-range : (v : Ray) → T (rayInRange v) → T (rayInRange (nextAxisRay v))
+next-ray-in-range v h = let w = ray-range v h in in-range-ray (nextAxisRay v) (record { x = w .y; y = w .z; z = w .x })
 
 -- ---- products: M(a·b) = M(a)·M(b)
 
@@ -219,6 +294,11 @@ sum-product a b = pos-inj (sumOfSquares (product a b)) (sumOfSquares a * sumOfSq
     ∙ solve (numbersAnd a (numbers b)) (sumOfSquaresE (productE (rotationE 0) (rotationE 4)))
     (sumOfSquaresE (rotationE 0) ⊗ sumOfSquaresE (rotationE 4)) tt
     ∙ sym (ap₂ _*ℤ_ (sum-ℤ a) (sum-ℤ b)))
+
+-- so the numbers of a product of two rotations within check 6 have sizes of at most 4·31²
+pub product-within : (a b : Rotation) → T (rotationInRange a) → T (rotationInRange b) → Within 3844 (product a b)
+product-within a b p q =
+    sum-within 3844 (product a b) (subst (λ n. n ≤ 3844 * 3844) (sym (sum-product a b)) (mul-le-mul (sum-bounded a p) (sum-bounded b q)))
 
 -- ---- multiples of rays
 

@@ -1,0 +1,40 @@
+use mathlib.Core.Path.{_≡_, _∙_, ap}
+use mathlib.Core.Bool.{Bool, _&&_}
+use lib.Dec.{leb}
+use lib.IntN.{ℤ, natAbs}
+use borrow.Author.Needs.{needs}
+use mir.Syntax.{w64}
+use mir.Val.{SFits, toZ, ofZ}
+use mir.Facts.{toZ-ofZ}
+use Rattle.cubemap.specs.Checks.{rotationInRange}
+use Rattle.rotation.proofs.Numbers.{RotationFits, rotation-fits}
+use Rattle.rotation.proofs.in_range.Statement.{statement}
+use Rattle.rotation.proofs.in_range.Tie as tie
+
+within-requires : tie.Need-within-requires
+within-requires c κs = search needs
+
+within-requires-2 : tie.Need-within-requires-2
+within-requires-2 c κs = search needs
+
+within-requires-3 : tie.Need-within-requires-3
+within-requires-3 c κs = search needs
+
+within-requires-4 : tie.Need-within-requires-4
+within-requires-4 c κs = search needs
+
+read-back : {x : ℤ} {b : Bool} → SFits w64 x → b ≡ leb (natAbs (toZ w64 (ofZ w64 x))) 31 → b ≡ leb (natAbs x) 31
+read-back f e = e ∙ ap (λ z. leb (natAbs z) 31) (toZ-ofZ f)
+
+returns : tie.Need-returns
+unfolding rotationInRange
+returns c =
+    let w3 = c .before in
+    let w2 = w3 .before in
+    let w1 = w2 .before in
+    let f : RotationFits (w1 .before .before .before .before .before .args .t) = rotation-fits (w1 .before .before .before .before .struct-told .given) in
+    λ i. read-back (f .f0) (w1 .within .ensures) i && read-back (f .f1) (w2 .within2 .ensures) i
+    && read-back (f .f2) (w3 .within3 .ensures) i && read-back (f .f3) (c .within4 .ensures) i
+
+pub in-range-spec : {M : Type 1} → statement M
+in-range-spec = tie.close (tie.spec within-requires within-requires-2 within-requires-3 within-requires-4 returns)
