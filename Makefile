@@ -1,21 +1,60 @@
-# `make` proves the crates and shows the marked cases; `make test` is what .ci/run calls.
-.PHONY: all test clean
+# `make` proves the crates, builds the archive, runs the C example and shows the marked cases; `make test` is what .ci/run calls.
+.PHONY: all test clean tools format prove archive example reference marked
+# One step after the other, in the order in which a target names them.
+.NOTPARALLEL:
 
-all:
+CC = cc
+CFLAGS = -std=c11 -Wall -Wextra -Werror -pedantic -O2
+CARGO = CARGO_TARGET_DIR="$(CURDIR)/build/reference" WELCHODRYS_LIBRARY_DIR="$(CURDIR)/build" cargo
+CARGO_FLAGS = --quiet --offline --locked --release --manifest-path reference/Cargo.toml
+TOOLS = awk $(firstword $(CC))
+
+all: tools prove example marked
+
+# The verdict comes last: `rt ci` starts from nothing, and its last line is 'N passed, M failed'.
+test: TOOLS += cargo
+test: tools format marked reference example
+	@rt ci
+
+tools:
 	@command -v rt >/dev/null || { echo "make: the Rattle toolchain (its command rt) is not on the PATH"; exit 1; }
+	@for tool in $(TOOLS); do command -v $$tool >/dev/null || { echo "make: $$tool is not on the PATH"; exit 1; }; done
+
+format:
+	@rt fmt --check
+
+prove:
 	@mkdir -p build
 	@echo "Proving the crates (some seconds each) .."
 	@rt check >build/check.log 2>&1 || { cat build/check.log; exit 1; }
 	@tail -n 1 build/check.log
 	@echo
+
+marked:
 	@echo "The paper's thirteen marked cases, proved of the definitions as one theorem (crates/cubemap/proofs/Marked.antt):"
 	@tools/marked-cases
+	@echo
 
-# The verdict comes last: `rt ci` starts from nothing, and its last line is 'N passed, M failed'.
-test:
-	@rt fmt --check
-	@tools/marked-cases
-	@rt ci
+# The archive is copied out of target/, because `rt ci` removes that folder.
+archive:
+	@mkdir -p build
+	@echo "Building build/libwelchodrys.a (its crates are proved first) .."
+	@rt staticlib welchodrys >build/staticlib.log 2>&1 || { cat build/staticlib.log; exit 1; }
+	@cp target/staticlib/libwelchodrys.a build/libwelchodrys.a
+	@echo
+
+example: archive
+	@echo "A C program that is linked with the archive (examples/three_calls.c):"
+	@$(CC) $(CFLAGS) -Iinclude examples/three_calls.c build/libwelchodrys.a -o build/three_calls
+	@build/three_calls
+	@echo
+
+# The reference is written from the paper alone; the differential test compares the archive with it.
+reference: archive
+	@echo "The reference's own tests, and the archive compared with the reference, call by call:"
+	@$(CARGO) test $(CARGO_FLAGS)
+	@$(CARGO) run $(CARGO_FLAGS) --bin differential
+	@echo
 
 clean:
 	rm -rf build target

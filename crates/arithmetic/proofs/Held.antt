@@ -3,17 +3,17 @@
 -- numerals, `tt` decides.
 use mathlib.Core.Path.{_≡_, refl, sym, _∙_, ap, ap₂, subst}
 use mathlib.Core.Bool.{Bool, true, false}
-use Prim.Native.Nat.{ℕ, suc, _+_, _*_, _^_, _≤_, _<_}
+use Prim.Native.Nat.{ℕ, zero, suc, _+_, _*_, _^_, _≤_, _<_}
 use native.Mathlib.Nat.{le-trans, le-refl, mul-le-mul, add-le-add, lt-of-le-of-lt, div-le-self}
 use native.Mathlib.Omega.{arith}
 use lib.Dec.{T, ltb, ltb→lt, eqb, eqb→eq, eqb-refl}
-use borrow.Author.Tests.{ne-eqb}
-use lib.IntN.{ℤ, pos, negsuc, negℤ, natAbs, _+ℤ_, _-ℤ_, _*ℤ_, negℤ-+ℤ, -ℤ-+ℤ-cancel}
+use borrow.Author.Tests.{lt-ltb, le-ltb, ne-eqb}
+use lib.IntN.{ℤ, pos, negsuc, negℤ, natAbs, _+ℤ_, _-ℤ_, _*ℤ_, +ℤ-idl, negℤ-+ℤ, -ℤ-+ℤ-cancel}
 use lib.Signed.{mag, ltZ, nonNeg, shrZ}
 use mir.Syntax.{w64}
 use mir.Val.{SFits, Fits, toZ, ofZ}
 use mir.Facts.{toZ-ofZ}
-use Rattle.arithmetic.specs.Integers.{floorDiv, withSignOf, equalℤ}
+use Rattle.arithmetic.specs.Integers.{floorDiv, withSignOf, isPositive, isNegative, equalℤ}
 use Rattle.arithmetic.proofs.Tests.{same-test}
 use Rattle.arithmetic.proofs.Sizes.{natAbs-neg, natAbs-mul, natAbs-add, equalℤ→eq, equalℤ-refl}
 
@@ -71,6 +71,20 @@ module _ {n m : ℕ} {x y : ℤ} {A B : ℕ} (p : Held n x A) (q : Held m y B) w
 
   pub sub : T (ltb (A + B) (2 ^ 63)) → Held (ofZ w64 (toZ w64 n -ℤ toZ w64 m)) (x -ℤ y) (A + B)
   sub t = record { is = toZ-ofZ (sub-ok t) ∙ ap₂ _-ℤ_ (p .is) (q .is); small = sub-small }
+
+-- 0 less a held number is its opposite
+module _ {n : ℕ} {x : ℤ} {A : ℕ} (p : Held n x A) (t : T (ltb A (2 ^ 63))) where
+  opposite-is : pos 0 -ℤ toZ w64 n ≡ negℤ x
+  opposite-is = ap (λ z. pos 0 -ℤ z) (p .is) ∙ +ℤ-idl (negℤ x)
+
+  opposite-small : natAbs (negℤ x) ≤ A
+  opposite-small = subst (λ k. k ≤ A) (sym (natAbs-neg x)) (p .small)
+
+  pub opposite-ok : SFits w64 (pos 0 -ℤ toZ w64 n)
+  opposite-ok = subst (SFits w64) (sym opposite-is) (sfits opposite-small (ltb→lt A (2 ^ 63) t))
+
+  pub opposite : Held (ofZ w64 (pos 0 -ℤ toZ w64 n)) (negℤ x) A
+  opposite = record { is = toZ-ofZ opposite-ok ∙ opposite-is; small = opposite-small }
 
 -- a shift to the right is division that rounds down
 pub shift-is : (z : ℤ) (m : ℕ) → shrZ z m ≡ floorDiv z m
@@ -141,6 +155,22 @@ pub sign-above : (x : ℤ) (c : ℕ) → ltZ x (pos 0) ≡ false → withSignOf 
 sign-above (pos n) c e = refl
 sign-above (negsuc n) c e = absurd (subst T e tt)
 
+-- the machine's tests of a sign: z is what it reads of x
+pub tests-negative : {z x : ℤ} {b : Bool} → z ≡ x → ltZ z (pos 0) ≡ b → isNegative x ≡ b
+tests-negative {z} {x} h e = sym (go x) ∙ ap (λ z. ltZ z (pos 0)) (sym h) ∙ e
+  where
+    go : (x : ℤ) → ltZ x (pos 0) ≡ isNegative x
+    go (pos n) = le-ltb n 0 (omega arith)
+    go (negsuc n) = refl
+
+pub tests-positive : {z x : ℤ} {b : Bool} → z ≡ x → ltZ (pos 0) z ≡ b → isPositive x ≡ b
+tests-positive {z} {x} h e = sym (go x) ∙ ap (λ z. ltZ (pos 0) z) (sym h) ∙ e
+  where
+    go : (x : ℤ) → ltZ (pos 0) x ≡ isPositive x
+    go (pos zero) = refl
+    go (pos (suc n)) = lt-ltb 0 (suc n) (omega arith)
+    go (negsuc n) = refl
+
 -- ---- tests on bits
 
 -- two numbers have the same bits where they are equal
@@ -152,4 +182,5 @@ bits-equal x y f g = same-test (eqb (ofZ w64 x) (ofZ w64 y)) (equalℤ x y)
 -- and only 0 has the bits of 0
 pub bits-zero : (x : ℤ) → SFits w64 x → eqb (ofZ w64 x) 0 ≡ eqb (natAbs x) 0
 bits-zero (pos n) f = refl
-bits-zero (negsuc n) f = ne-eqb (ofZ w64 (negsuc n)) 0 (λ e. let h = f .sfits in absurd (omega arith)) ∙ sym (ne-eqb (suc n) 0 (λ e. absurd (omega arith)))
+bits-zero (negsuc n) f =
+    ne-eqb (ofZ w64 (negsuc n)) 0 (λ e. let h = f .sfits in absurd (omega arith)) ∙ sym (ne-eqb (suc n) 0 (λ e. absurd (omega arith)))

@@ -4,14 +4,14 @@ use mathlib.Core.List.{[], _∷_}
 use mathlib.Core.Bool.{Bool}
 use Prim.Native.Nat.{ℕ, zero, suc, _+_, _*_, _-_, _≤_, _<_}
 use native.Mathlib.Nat.{mul-comm, mul-le-mul-left, mul-le-mul-right, mul-lt-mul-of-pos-left, mul-pos, mul-sub, zero-lt-suc, add-zero, add-suc}
-use native.Mathlib.Nat.{lt-of-not-le, le-trans, lt-of-lt-of-le, not-le-of-lt}
+use native.Mathlib.Nat.{le-of-suc-le-suc, lt-of-not-le, le-of-eq, le-trans, lt-of-lt-of-le, not-le-of-lt}
 use native.Mathlib.Omega.{arith}
 use native.Mathlib.Decide.{decLt}
 use lib.Dec.{leb, leb→le, le→leb}
 use lib.IntN.{pos}
 use Rattle.arithmetic.proofs.Sizes.{pos-inj}
 use Rattle.arithmetic.proofs.Ring.{var, con, _⊕_, _⊗_, solve}
-use Rattle.arithmetic.proofs.Searches.{IsLargest, largest-is}
+use Rattle.arithmetic.proofs.Searches.{IsLargest, largest-is, largest-unique}
 use Rattle.cubemap.specs.PlaceToRay.{N, curve}
 
 -- c·(34M − 9c), the left side of equation 12 in whole numbers of scale M
@@ -45,6 +45,10 @@ bent-end M = ap (λ m. M * m) quarter ∙ mul-comm M (25 * M)
   where
     quarter : 34 * M - 9 * M ≡ 25 * M
     quarter = omega arith
+
+-- so it is never more
+pub bent-most : (M c : ℕ) → c ≤ M → bent M c ≤ 25 * M * M
+bent-most M c h = le-trans (bent-rises M c M h (omega arith)) (le-of-eq (bent-end M))
 
 -- on another scale: both numbers times a
 bent-scaled : (A a z e : ℕ) → bent (a * e) (a * z) * A ≡ a * a * (bent e z * A)
@@ -83,6 +87,32 @@ curve-is A k = record {
 
     g : IsLargest test N (curve A k)
     g = largest-is test N 0 (omega arith) (le→leb (0 * (34 * N - 9 * 0) * A) (25 * N * N * k) (omega arith))
+
+-- and nothing else is
+pub curve-only : (A k c : ℕ) → IsCurve A k c → curve A k ≡ c
+unfolding curve
+curve-only A k c g = largest-unique (λ d. leb (bent N d * A) (25 * N * N * k)) N c (record {
+  bounded = g .bounded;
+  holds = le→leb (bent N c * A) (25 * N * N * k) (g .fits);
+  most = λ d h t. g .most d h (leb→le (bent N d * A) (25 * N * N * k) t);
+})
+
+-- bisection: `low` fits, and `high` does not or is beyond N
+pub record Bracket (A k low high : ℕ) : Type 0 where
+  pub order : low < high
+  pub top : high ≤ N + 1
+  pub fits : Fits A k low
+  pub over : high ≤ N → 25 * N * N * k < bent N high * A
+
+-- it ends with the curve
+pub bracket-end : (A k low high : ℕ) → Bracket A k low high → high ≤ low + 1 → low ≡ curve A k
+bracket-end A k low high g l = sym (curve-only A k low (record { bounded = omega (arith, g .order, g .top); fits = g .fits; most = most }))
+  where
+    most : (d : ℕ) → d ≤ N → Fits A k d → d ≤ low
+    most d h f = le-of-suc-le-suc (lt-of-not-le (λ (m : suc low ≤ d).
+        let o = g .over (omega arith) in
+        let r = mul-le-mul-right A (bent-rises N high d (omega arith) h) in
+        omega arith))
 
 -- what is above the curve does not fit
 pub curve-over : (A k d : ℕ) → curve A k < d → d ≤ N → 25 * N * N * k < bent N d * A

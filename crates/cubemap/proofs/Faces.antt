@@ -1,23 +1,44 @@
 -- The tables of document 000: Table 4 undoes Table 3, and Table 3 undoes Table 4. A strictly largest axis decides the face; where two sizes
--- are equal, only this module knows which face is taken.
-use mathlib.Core.Path.{_≡_, refl, sym, _∙_, subst}
-use mathlib.Core.Bool.{Bool, true, false, _&&_, not, cond}
+-- are equal, only this module knows which face is taken, and whoever makes the tests of Table 4 in their order.
+use mathlib.Core.Path.{_≡_, refl, sym, _∙_, ap, subst}
+use mathlib.Core.Bool.{Bool, true, false, _&&_, cond}
 use Prim.Native.Nat.{ℕ, zero, suc, _+_, _*_, _≤_, _<_}
 use native.Mathlib.Decide.{decLt}
 use native.Mathlib.Nat.{mul-le-mul-left, le-of-mul-le-mul-left, lt-of-not-le}
 use native.Mathlib.Omega.{arith}
-use lib.Dec.{T, leb, eqb, leb→le, le→leb}
-use borrow.Author.Tests.{le-leb, lt-leb}
+use lib.Dec.{T, leb, leb→le, le→leb}
+use borrow.Author.Tests.{le-leb, lt-leb, leb-true}
 use lib.IntN.{ℤ, pos, negsuc, negℤ, natAbs, _*ℤ_, negℤ-negℤ}
 use Rattle.arithmetic.specs.Integers.{isPositive, isNegative}
-use Rattle.arithmetic.proofs.Tests.{fails, and-left, and-right, and-both, and-false, cond-both}
+use Rattle.arithmetic.proofs.Tests.{fails, and-left, and-right, and-both, cond-both}
 use Rattle.arithmetic.proofs.Integers.{mul-neg}
 use Rattle.arithmetic.proofs.Sizes.{natAbs-neg, natAbs-mul, positive-size, negative-size, positive-is, negative-is, no-sign}
 use Rattle.arithmetic.proofs.Sizes.{positive-pos, positive-neg, positive-times, negative-times}
+use Rattle.cubemap.specs.declared.Format.{Format}
+use Rattle.cubemap.specs.declared.Place.{Place}
 use Rattle.cubemap.specs.declared.Ray.{Ray}
-use Rattle.cubemap.specs.PlaceToRay.{ray, times, table3}
+use Rattle.cubemap.specs.PlaceToRay.{ray, times, scale, faceCoordinate, rowOf, table3, rayOf}
 use Rattle.cubemap.specs.RayToPlace.{isLargest, faceOf, chosenSize, across, down}
 use Rattle.cubemap.specs.Checks.{rayNonzero}
+use Rattle.cubemap.proofs.Ranges.{RayWithin, ray-not-zero}
+
+-- ---- Table 3 by its rows
+
+pub table3-rows : (f : ℕ) (s a b : ℤ) → table3 f s a b ≡ rowOf f
+    (ray s (negℤ b) (negℤ a))
+    (ray (negℤ s) (negℤ b) a)
+    (ray a s b)
+    (ray a (negℤ s) (negℤ b))
+    (ray a (negℤ b) s)
+    (ray (negℤ a) (negℤ b) (negℤ s))
+unfolding table3
+table3-rows f s a b = refl
+
+-- the ray of a place by Table 3
+pub rayOf-table3 : (format : Format) (A : ℕ) (P : Place)
+    → rayOf format A P ≡ table3 (P .face) (pos (scale format A)) (faceCoordinate format A (P .column)) (faceCoordinate format A (P .row))
+unfolding rayOf
+rayOf-table3 format A P = refl
 
 -- ---- Table 4 undoes Table 3
 
@@ -61,13 +82,22 @@ table3-sizes g (suc (suc (suc zero))) s a b = rw (natAbs-neg s, natAbs-neg b) (o
 table3-sizes g (suc (suc (suc (suc zero)))) s a b = rw (natAbs-neg b) (omega arith)
 table3-sizes g (suc (suc (suc (suc (suc f))))) s a b = rw (natAbs-neg s, natAbs-neg a, natAbs-neg b) (omega arith)
 
--- ---- a strictly largest axis decides
+-- ---- a largest axis decides, the earlier one at equal sizes
 
 -- a number that is not 0 has one of the two signs
 sign-decides : (z : ℤ) (i j n : ℕ) → 0 < natAbs z → cond (isPositive z) i (cond (isNegative z) j n) ≡ cond (isPositive z) i j
 sign-decides (pos zero) i j n h = absurd (omega arith)
 sign-decides (pos (suc m)) i j n h = refl
 sign-decides (negsuc m) i j n h = refl
+
+-- two sizes of which one is above a third are not both at most the third
+not-largest : (a b c : ℕ) → (b ≤ a → c ≤ a → ⊥) → (leb b a && leb c a) ≡ false
+not-largest a b c f = go (leb b a) (leb c a) refl refl
+  where
+    go : (p q : Bool) → leb b a ≡ p → leb c a ≡ q → (p && q) ≡ false
+    go true true d e = absurd (f (leb-true b a d) (leb-true c a e))
+    go true false d e = refl
+    go false q d e = refl
 
 module _ (r : Ray) where
   abbrev X : ℕ
@@ -79,19 +109,24 @@ module _ (r : Ray) where
   abbrev Z : ℕ
   Z = natAbs (r .z)
 
-  pub strictly-x : Y < X → Z < X → faceOf r ≡ cond (isPositive (r .x)) 0 1
+  face-x : Y ≤ X → Z ≤ X → 0 < X → faceOf r ≡ cond (isPositive (r .x)) 0 1
   unfolding faceOf
-  strictly-x p q = rw (le-leb Y X (omega arith), le-leb Z X (omega arith)) (sign-decides (r .x) 0 1 _ (omega arith))
+  face-x p q h = rw (le-leb Y X p, le-leb Z X q) (sign-decides (r .x) 0 1 _ h)
+
+  face-y : (Y ≤ X → Z ≤ X → ⊥) → X ≤ Y → Z ≤ Y → 0 < Y → faceOf r ≡ cond (isPositive (r .y)) 2 3
+  unfolding faceOf
+  face-y n p q h = rw (not-largest X Y Z n, le-leb X Y p, le-leb Z Y q) (sign-decides (r .y) 2 3 _ h)
+
+  pub strictly-x : Y < X → Z < X → faceOf r ≡ cond (isPositive (r .x)) 0 1
+  strictly-x p q = face-x (omega arith) (omega arith) (omega arith)
 
   pub strictly-y : X < Y → Z < Y → faceOf r ≡ cond (isPositive (r .y)) 2 3
-  unfolding faceOf
-  strictly-y p q =
-      rw (lt-leb Y X p, le-leb X Y (omega arith), le-leb Z Y (omega arith)) (sign-decides (r .y) 2 3 _ (omega arith))
+  strictly-y p q = face-y (λ a b. omega arith) (omega arith) (omega arith) (omega arith)
 
   pub strictly-z : X < Z → Y < Z → faceOf r ≡ cond (isPositive (r .z)) 4 5
   unfolding faceOf
   strictly-z p q =
-      rw (lt-leb Z X p, lt-leb Z Y q, and-false (leb Y X), and-false (leb X Y), le-leb X Z (omega arith), le-leb Y Z (omega arith))
+      rw (not-largest X Y Z (λ a b. omega arith), not-largest Y X Z (λ a b. omega arith), le-leb X Z (omega arith), le-leb Y Z (omega arith))
       (sign-decides (r .z) 4 5 _ (omega arith))
 
 -- so a ray of Table 3 inside its face is on that face
@@ -152,10 +187,6 @@ some-largest a b c f g h = go (decLt a b) (decLt a c) (decLt b c)
     go (no x) (yes y) z = h (omega arith) (omega arith)
     go (yes x) y (no z) = g (omega arith) (omega arith)
     go (yes x) y (yes z) = h (omega arith) (omega arith)
-
-ray-not-zero : (r : Ray) → T (rayNonzero r) → natAbs (r .x) ≡ 0 → natAbs (r .y) ≡ 0 → natAbs (r .z) ≡ 0 → ⊥
-unfolding rayNonzero
-ray-not-zero r t p q w = subst (λ (b : Bool). T (not b)) (λ i. eqb (p i) 0 && eqb (q i) 0 && eqb (w i) 0) t
 
 neg-small : (z : ℤ) (n : ℕ) → natAbs z ≤ n → natAbs (negℤ z) ≤ n
 neg-small z n h = subst (λ m. m ≤ n) (sym (natAbs-neg z)) h
@@ -243,6 +274,82 @@ faced r t =
         (λ p q. let e = rows-deny (r .x) (r .y) (r .z) n0 n1 p q in ray-not-zero r t e (omega arith) (omega arith))
         (λ p q. let e = rows-deny (r .y) (r .x) (r .z) n2 n3 p q in ray-not-zero r t (omega arith) e (omega arith))
         (λ p q. let e = rows-deny (r .z) (r .x) (r .y) n4 n5 p q in ray-not-zero r t (omega arith) (omega arith) e)
+
+-- ---- Table 4 by the tests that its rows make, in their order
+
+-- what it gives: the face, u × d, v × d, and d
+abbrev pub Table4 : Ray → ℕ → ℤ → ℤ → ℕ → Type 0
+Table4 r f a b d = (f ≡ faceOf r) × (a ≡ across (faceOf r) r) × (b ≡ down (faceOf r) r) × (d ≡ chosenSize (faceOf r) r)
+
+table4-of : (r : Ray) (f : ℕ) → faceOf r ≡ f → Table4 r f (across f r) (down f r) (chosenSize f r)
+table4-of r f e =
+    subst (λ g. (f ≡ g) × (across f r ≡ across g r) × (down f r ≡ down g r) × (chosenSize f r ≡ chosenSize g r)) (sym e) (refl, refl, refl, refl)
+
+module _ (r : Ray) (t : T (rayNonzero r)) where
+  pub table4-x : Y r ≤ X r → Z r ≤ X r → (b : Bool) → isPositive (r .x) ≡ b
+      → Table4 r (cond b 0 1) (cond b (negℤ (r .z)) (r .z)) (negℤ (r .y)) (X r)
+  unfolding across down chosenSize
+  table4-x p q b s = go b (face-x r p q some ∙ ap (λ c. cond {A = ℕ} c 0 1) s)
+    where
+      some : 0 < X r
+      some = lt-of-not-le (λ (l : X r ≤ 0). ray-not-zero r t (omega arith) (omega arith) (omega arith))
+
+      go : (b : Bool) → faceOf r ≡ cond b 0 1 → Table4 r (cond b 0 1) (cond b (negℤ (r .z)) (r .z)) (negℤ (r .y)) (X r)
+      go true e = table4-of r 0 e
+      go false e = table4-of r 1 e
+
+  pub table4-y : (Y r ≤ X r → Z r ≤ X r → ⊥) → X r ≤ Y r → Z r ≤ Y r → (b : Bool) → isPositive (r .y) ≡ b
+      → Table4 r (cond b 2 3) (r .x) (cond b (r .z) (negℤ (r .z))) (Y r)
+  unfolding across down chosenSize
+  table4-y n p q b s = go b (face-y r n p q some ∙ ap (λ c. cond {A = ℕ} c 2 3) s)
+    where
+      some : 0 < Y r
+      some = lt-of-not-le (λ (l : Y r ≤ 0). ray-not-zero r t (omega arith) (omega arith) (omega arith))
+
+      go : (b : Bool) → faceOf r ≡ cond b 2 3 → Table4 r (cond b 2 3) (r .x) (cond b (r .z) (negℤ (r .z))) (Y r)
+      go true e = table4-of r 2 e
+      go false e = table4-of r 3 e
+
+  pub table4-z : (Y r ≤ X r → Z r ≤ X r → ⊥) → (X r ≤ Y r → Z r ≤ Y r → ⊥) → (b : Bool) → isPositive (r .z) ≡ b
+      → Table4 r (cond b 4 5) (cond b (r .x) (negℤ (r .x))) (negℤ (r .y)) (Z r)
+  unfolding across down chosenSize
+  table4-z m n b s = go b (last (decLt (X r) (Y r)) ∙ ap (λ c. cond {A = ℕ} c 4 5) s)
+    where
+      last : Dec (X r < Y r) → faceOf r ≡ cond (isPositive (r .z)) 4 5
+      last (yes l) = let h = lt-of-not-le (λ q. n (omega arith) q) in strictly-z r (omega arith) h
+      last (no l) = let h = lt-of-not-le (λ q. m (omega arith) q) in strictly-z r h (omega arith)
+
+      go : (b : Bool) → faceOf r ≡ cond b 4 5 → Table4 r (cond b 4 5) (cond b (r .x) (negℤ (r .x))) (negℤ (r .y)) (Z r)
+      go true e = table4-of r 4 e
+      go false e = table4-of r 5 e
+
+-- the chosen size is that of one of the three numbers
+chosen-within : (B f : ℕ) (r : Ray) → RayWithin B r → chosenSize f r ≤ B
+unfolding chosenSize
+chosen-within B zero r w = w .x
+chosen-within B (suc zero) r w = w .x
+chosen-within B (suc (suc zero)) r w = w .y
+chosen-within B (suc (suc (suc zero))) r w = w .y
+chosen-within B (suc (suc (suc (suc zero)))) r w = w .z
+chosen-within B (suc (suc (suc (suc (suc f))))) r w = w .z
+
+-- so the numbers are ratios of at most 1, within the ray's bound
+pub record Ratios (B : ℕ) (a b : ℤ) (d : ℕ) : Type 0 where
+  pub positive : 0 < d
+  pub bounded : d ≤ B
+  pub across-ok : natAbs a ≤ d
+  pub down-ok : natAbs b ≤ d
+
+pub table4-ratios : {B f d : ℕ} {r : Ray} {a b : ℤ} → T (rayNonzero r) → RayWithin B r → Table4 r f a b d → Ratios B a b d
+table4-ratios {B} {f} {d} {r} {a} {b} t w (face, x, y, size) = record {
+  positive = rw size (g .nonzero);
+  bounded = rw size (chosen-within B (faceOf r) r w);
+  across-ok = rw (x, size) (g .across-ok);
+  down-ok = rw (y, size) (g .down-ok);
+}
+  where
+    g : Faced r (faceOf r)
+    g = faced r t
 
 -- ---- a positive multiple of a ray
 

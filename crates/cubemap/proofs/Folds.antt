@@ -1,70 +1,72 @@
--- What fold and equality give at each of their exits.
-use mathlib.Core.Path.{_≡_, _∙_, ap}
-use mathlib.Core.Bool.{Bool, true, false, _&&_}
-use mathlib.Core.List.{List, [], _∷_}
-use lib.IntN.{ℤ}
+-- What fold and equality give at each of their exits: the first check that fails decides, and where none does, the values are written.
+use mathlib.Core.Path.{_≡_, ap}
+use mathlib.Core.Bool.{Bool, false, _&&_}
+use mathlib.Core.List.{[], _∷_}
+use lib.Dec.{T}
 use Rattle.cubemap.specs.declared.Refusal.{Refusal}
 use Rattle.cubemap.specs.declared.Rotation.{Rotation}
 use Rattle.cubemap.specs.Interface.{Answer, accepted}
 use Rattle.cubemap.specs.Rotations.{compose, sameRotation}
 use Rattle.cubemap.specs.Checks.{Check, check, firstFailed, rotationInRange, rotationNonzero, equalChecks, foldChecks}
-use Rattle.cubemap.specs.Outcomes.{Result, result, ifAccepted, refused, foldValues, equalValues, foldResult, equalResult}
-use Rattle.cubemap.proofs.Passed.{first-fails, first-holds}
+use Rattle.cubemap.specs.Outcomes.{result, ifAccepted, refused, foldValues, equalValues, foldResult, equalResult}
+use Rattle.cubemap.proofs.Passed.{failing, holding, no-index}
 
 module _ (a b : Rotation) where
-  -- questions 6 and 7, of both turns
+  -- questions 6 and 7, of both turns, and 12, of the folded one
   abbrev pub bothInRange : Bool
   bothInRange = rotationInRange a && rotationInRange b
 
   abbrev pub bothNonzero : Bool
   bothNonzero = rotationNonzero a && rotationNonzero b
 
-  -- the first check that fails of these two and what comes behind them
-  module _ (cs : List Check) where
-    abbrev asked : List Check
-    asked = check 6 bothInRange ∷ check 7 bothNonzero ∷ cs
+  abbrev question6 : Check
+  question6 = check 6 bothInRange
 
-    at-range : bothInRange ≡ false → firstFailed asked ≡ record { number = 6; index = 0 }
-    at-range e = first-fails (check 6 bothInRange) (check 7 bothNonzero ∷ cs) e
+  abbrev question7 : Check
+  question7 = check 7 bothNonzero
 
-    at-zero : bothInRange ≡ true → bothNonzero ≡ false → firstFailed asked ≡ record { number = 7; index = 0 }
-    at-zero e f = first-holds (check 6 bothInRange) (check 7 bothNonzero ∷ cs) e ∙ first-fails (check 7 bothNonzero) cs f
-
-    past : bothInRange ≡ true → bothNonzero ≡ true → firstFailed asked ≡ firstFailed cs
-    past e f = first-holds (check 6 bothInRange) (check 7 bothNonzero ∷ cs) e ∙ first-holds (check 7 bothNonzero) cs f
+  abbrev question12 : Check
+  question12 = check 12 (rotationInRange (compose a b))
 
   -- ---- equality
 
+  equal-answered : (x : Answer) → firstFailed (question6 ∷ question7 ∷ []) ≡ x → equalResult a b ≡ ifAccepted x (equalValues (sameRotation a b))
+  unfolding equalResult equalChecks
+  equal-answered x e = ap (λ x. ifAccepted x (equalValues (sameRotation a b))) e
+
   pub equal-range : bothInRange ≡ false → equalResult a b ≡ refused Refusal.RotationRange
-  unfolding equalResult equalChecks
-  equal-range e = ap (λ x. ifAccepted x (equalValues (sameRotation a b))) (at-range [] e)
+  equal-range e = equal-answered _ (failing [] question6 (question7 ∷ []) tt e)
 
-  pub equal-zero : bothInRange ≡ true → bothNonzero ≡ false → equalResult a b ≡ refused Refusal.RotationZero
-  unfolding equalResult equalChecks
-  equal-zero e f = ap (λ x. ifAccepted x (equalValues (sameRotation a b))) (at-zero [] e f)
+  pub equal-zero : T bothInRange → bothNonzero ≡ false → equalResult a b ≡ refused Refusal.RotationZero
+  equal-zero r e = equal-answered _ (failing (question6 ∷ []) question7 [] (r, tt) e)
 
-  pub equal-accepted : bothInRange ≡ true → bothNonzero ≡ true → equalResult a b ≡ result accepted (equalValues (sameRotation a b))
-  unfolding equalResult equalChecks firstFailed
-  equal-accepted e f = ap (λ x. ifAccepted x (equalValues (sameRotation a b))) (past [] e f)
+  pub equal-accepted : T bothInRange → T bothNonzero → equalResult a b ≡ result accepted (equalValues (sameRotation a b))
+  equal-accepted r n = equal-answered accepted (holding (question6 ∷ question7 ∷ []) (r, (n, tt)))
+
+  -- no refusal brings an index
+  pub equal-index : equalResult a b .answered .index ≡ 0
+  unfolding equalResult equalChecks
+  equal-index = no-index (equalChecks a b) tt
 
   -- ---- fold
 
-  abbrev folded : Check
-  folded = check 12 (rotationInRange (compose a b))
+  fold-answered : (x : Answer) → firstFailed (question6 ∷ question7 ∷ question12 ∷ []) ≡ x → foldResult a b ≡ ifAccepted x (foldValues (compose a b))
+  unfolding foldResult foldChecks equalChecks
+  fold-answered x e = ap (λ x. ifAccepted x (foldValues (compose a b))) e
 
   pub fold-range : bothInRange ≡ false → foldResult a b ≡ refused Refusal.RotationRange
-  unfolding foldResult foldChecks equalChecks
-  fold-range e = ap (λ x. ifAccepted x (foldValues (compose a b))) (at-range (folded ∷ []) e)
+  fold-range e = fold-answered _ (failing [] question6 (question7 ∷ question12 ∷ []) tt e)
 
-  pub fold-zero : bothInRange ≡ true → bothNonzero ≡ false → foldResult a b ≡ refused Refusal.RotationZero
-  unfolding foldResult foldChecks equalChecks
-  fold-zero e f = ap (λ x. ifAccepted x (foldValues (compose a b))) (at-zero (folded ∷ []) e f)
+  pub fold-zero : T bothInRange → bothNonzero ≡ false → foldResult a b ≡ refused Refusal.RotationZero
+  fold-zero r e = fold-answered _ (failing (question6 ∷ []) question7 (question12 ∷ []) (r, tt) e)
 
-  pub fold-beyond : bothInRange ≡ true → bothNonzero ≡ true → rotationInRange (compose a b) ≡ false → foldResult a b ≡ refused Refusal.FoldedRange
-  unfolding foldResult foldChecks equalChecks
-  fold-beyond e f g = ap (λ x. ifAccepted x (foldValues (compose a b))) (past (folded ∷ []) e f ∙ first-fails folded [] g)
+  pub fold-beyond : T bothInRange → T bothNonzero → rotationInRange (compose a b) ≡ false → foldResult a b ≡ refused Refusal.FoldedRange
+  fold-beyond r n e = fold-answered _ (failing (question6 ∷ question7 ∷ []) question12 [] (r, (n, tt)) e)
 
-  pub fold-accepted : bothInRange ≡ true → bothNonzero ≡ true → rotationInRange (compose a b) ≡ true
+  pub fold-accepted : T bothInRange → T bothNonzero → T (rotationInRange (compose a b))
       → foldResult a b ≡ result accepted (foldValues (compose a b))
-  unfolding foldResult foldChecks equalChecks firstFailed
-  fold-accepted e f g = ap (λ x. ifAccepted x (foldValues (compose a b))) (past (folded ∷ []) e f ∙ first-holds folded [] g)
+  fold-accepted r n f = fold-answered accepted (holding (question6 ∷ question7 ∷ question12 ∷ []) (r, (n, (f, tt))))
+
+  pub fold-index : foldResult a b .answered .index ≡ 0
+  unfolding foldResult foldChecks equalChecks
+  fold-index = no-index (foldChecks a b) tt

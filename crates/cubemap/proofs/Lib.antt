@@ -2,7 +2,9 @@
 pub mod Marked
 pub mod Examples
 pub mod Passed
+pub mod LookUps
 pub mod Ranges
+pub mod Answers
 pub mod Layouts
 pub mod Indices
 pub mod Framed

@@ -1,6 +1,6 @@
 -- From ray to place: a ray that is not 0 falls on a face, within its range; its positive multiples fall where it does; and the ray of a place
 -- falls on that place, at phase 0.
-use mathlib.Core.Path.{_≡_, _∙_}
+use mathlib.Core.Path.{_≡_, sym, _∙_}
 use Prim.Native.Nat.{ℕ, _*_, _≤_, _<_}
 use lib.Dec.{T}
 use lib.IntN.{ℤ, pos}
@@ -10,11 +10,11 @@ use Rattle.cubemap.specs.declared.Place.{Place}
 use Rattle.cubemap.specs.declared.Ray.{Ray}
 use Rattle.cubemap.specs.Frames.{IsPlace}
 use Rattle.cubemap.specs.PlaceToRay.{times, scale, faceCoordinate, rayOf}
-use Rattle.cubemap.specs.RayToPlace.{faceOf, chosenSize, across, down, located, locate}
+use Rattle.cubemap.specs.RayToPlace.{faceOf, chosenSize, across, down, position64, located, locate}
 use Rattle.cubemap.specs.Checks.{rayNonzero}
 use Rattle.cubemap.proofs.FaceCoordinates.{Coordinates, coordinates}
 use Rattle.cubemap.proofs.Positions.{InRange, position-range, position-times, position-own}
-use Rattle.cubemap.proofs.Faces.{Faced, faced, across-table3, down-table3, chosen-table3, faceOf-table3}
+use Rattle.cubemap.proofs.Faces.{Table4, Faced, faced, across-table3, down-table3, chosen-table3, faceOf-table3}
 use Rattle.cubemap.proofs.Faces.{chosen-times, across-times, down-times, faceOf-times}
 
 -- ---- what is located lies on a face
@@ -34,6 +34,14 @@ locate-on-face format A r t = record {
   where
     g : Faced r (faceOf r)
     g = faced r t
+
+-- ---- by what Table 4 gives
+
+pub locate-is : (format : Format) (A : ℕ) (v : Ray) (f : ℕ) (x y : ℤ) (d : ℕ) → Table4 v f x y d
+    → locate format A v ≡ located f (position64 format A x d) (position64 format A y d)
+unfolding locate
+locate-is format A v f x y d (face, a, b, size) =
+    sym (λ i. located (face i) (position64 format A (a i) (size i)) (position64 format A (b i) (size i)))
 
 -- ---- a positive multiple of a ray is located where the ray is
 

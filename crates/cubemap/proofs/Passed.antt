@@ -1,15 +1,16 @@
 -- What an accepted call has passed: each list of checks inverted once, into a record with named fields.
-use mathlib.Core.Path.{_≡_, refl}
+use mathlib.Core.Path.{_≡_, refl, _∙_, ap}
 use mathlib.Core.Bool.{Bool, true, false, _&&_, not, cond}
 use mathlib.Core.List.{List, [], _∷_, _++_}
-use Prim.Native.Nat.{ℕ, _≤_}
-use lib.Dec.{T, eqb, leb, leb→le, T-not}
+use Prim.Native.Nat.{ℕ, _≤_, _<_}
+use lib.Dec.{T, eqb, eqb→eq, leb, leb→le, le→leb, T-not}
 use lib.ListN.{length}
-use Rattle.arithmetic.proofs.Tests.{and-left, and-right, All3, and3}
+use borrow.Author.Tests.{lt-leb}
+use Rattle.arithmetic.proofs.Tests.{and-left, and-right, and-both, and-false, All3, and3, cond-true}
 use Rattle.cubemap.specs.declared.Ray.{Ray}
 use Rattle.cubemap.specs.Interface.{answer, accepted, isAccepted}
-use Rattle.cubemap.specs.Checks.{ConvertSettings, ScoreSettings, targetShape, Check, firstFailed, between, sizeOK, depthOK, codeOK, layoutOK}
-use Rattle.cubemap.specs.Checks.{rotationInRange, rotationNonzero, lengthOK, samplesOK, rayInRange, rayNonzero}
+use Rattle.cubemap.specs.Checks.{ConvertSettings, ScoreSettings, targetShape, Check, check, firstFailed, between, sizeOK, depthOK, codeOK}
+use Rattle.cubemap.specs.Checks.{layoutOK, rotationInRange, rotationNonzero, lengthOK, samplesOK, rayInRange, rayNonzero}
 use Rattle.cubemap.specs.Checks.{sizeChecks, settingChecks, lengthChecks, beforeSamples, convertChecks, scoreChecks, lookUpChecks}
 
 -- ---- lists of checks
@@ -22,15 +23,6 @@ AllHold (c ∷ cs) = T (c .holds) × AllHold cs
 abbrev pub numbered : List Check → Bool
 numbered [] = true
 numbered (c ∷ cs) = not (eqb (c .number) 0) && numbered cs
-
--- the first check, where it fails and where it holds
-pub first-fails : (c : Check) (cs : List Check) → c .holds ≡ false → firstFailed (c ∷ cs) ≡ answer (c .number) (c .index)
-unfolding firstFailed
-first-fails c cs e = rw e
-
-pub first-holds : (c : Check) (cs : List Check) → c .holds ≡ true → firstFailed (c ∷ cs) ≡ firstFailed cs
-unfolding firstFailed
-first-holds c cs e = rw e
 
 -- an accepted call has passed each check
 pub all-hold : (cs : List Check) → T (numbered cs) → T (isAccepted (firstFailed cs)) → AllHold cs
@@ -52,6 +44,28 @@ holding (c ∷ cs) h = go (c .holds) (h .0) (holding cs (h .1))
     go : (b : Bool) → T b → firstFailed cs ≡ accepted → cond b (firstFailed cs) (answer (c .number) (c .index)) ≡ accepted
     go true t ih = ih
     go false t ih = absurd t
+
+-- where no check brings an index, the answer has none
+abbrev pub unindexed : List Check → Bool
+unindexed [] = true
+unindexed (c ∷ cs) = eqb (c .index) 0 && unindexed cs
+
+pub no-index : (cs : List Check) → T (unindexed cs) → firstFailed cs .index ≡ 0
+unfolding firstFailed
+no-index [] t = refl
+no-index (c ∷ cs) t = go (c .holds) (no-index cs (and-right (eqb (c .index) 0) (unindexed cs) t))
+  where
+    go : (b : Bool) → firstFailed cs .index ≡ 0 → cond b (firstFailed cs) (answer (c .number) (c .index)) .index ≡ 0
+    go true ih = ih
+    go false ih = eqb→eq (c .index) 0 (and-left (eqb (c .index) 0) (unindexed cs) t)
+
+-- the first that fails, where those in front of it hold
+pub failing : (front : List Check) (c : Check) (rest : List Check) → AllHold front → c .holds ≡ false
+    → firstFailed (front ++ (c ∷ rest)) ≡ answer (c .number) (c .index)
+unfolding firstFailed
+failing [] c rest h e = ap (λ b. cond b (firstFailed rest) (answer (c .number) (c .index))) e
+failing (d ∷ front) c rest h e =
+    cond-true (d .holds) (firstFailed (front ++ (c ∷ rest))) (answer (d .number) (d .index)) (h .0) ∙ failing front c rest (h .1) e
 
 -- checks in front of others: the first that fails of them, else that of the others
 pub firstFailed-append : (xs ys : List Check) → T (numbered xs)
@@ -83,15 +97,45 @@ between-is low high x t = record {
   at-most = leb→le x high (and-right (leb low x) (leb x high) t);
 }
 
+between-holds : (low high x : ℕ) → low ≤ x → x ≤ high → T (between low high x)
+between-holds low high x h k = and-both (leb low x) (leb x high) (le→leb low x h) (le→leb x high k)
+
+below-fails : (low high x : ℕ) → x < low → between low high x ≡ false
+below-fails low high x h = ap (λ b. b && leb x high) (lt-leb low x h)
+
+above-fails : (low high x : ℕ) → high < x → between low high x ≡ false
+above-fails low high x h = ap (λ b. leb low x && b) (lt-leb x high h) ∙ and-false (leb low x)
+
 -- 1, 2
 pub size-range : (A : ℕ) → T (sizeOK A) → Between 1 512 A
 unfolding sizeOK
 size-range A t = between-is 1 512 A t
 
+pub size-holds : (A : ℕ) → 1 ≤ A → A ≤ 512 → T (sizeOK A)
+unfolding sizeOK
+size-holds A h k = between-holds 1 512 A h k
+
+pub size-below : (A : ℕ) → A < 1 → sizeOK A ≡ false
+unfolding sizeOK
+size-below A h = below-fails 1 512 A h
+
+pub size-above : (A : ℕ) → 512 < A → sizeOK A ≡ false
+unfolding sizeOK
+size-above A h = above-fails 1 512 A h
+
 -- 3
 pub depth-range : (D : ℕ) → T (depthOK D) → Between 8 12 D
 unfolding depthOK
 depth-range D t = between-is 8 12 D t
+
+-- 4
+pub code-holds : (c : ℕ) → c ≤ 1 → T (codeOK c)
+unfolding codeOK
+code-holds c h = le→leb c 1 h
+
+pub code-above : (c : ℕ) → 1 < c → codeOK c ≡ false
+unfolding codeOK
+code-above c h = lt-leb c 1 h
 
 -- ---- convert
 
@@ -173,6 +217,12 @@ pub record LookUpPassed (A format : ℕ) (v : Ray) : Type 0 where
   pub format-code : T (codeOK format)
   pub in-range : T (rayInRange v)
   pub nonzero : T (rayNonzero v)
+
+-- the checks that it makes, in their order
+pub look-up-checks : (A format : ℕ) (v : Ray)
+    → lookUpChecks A format v ≡ check 1 (sizeOK A) ∷ check 4 (codeOK format) ∷ check 13 (rayInRange v) ∷ check 14 (rayNonzero v) ∷ []
+unfolding lookUpChecks
+look-up-checks A format v = refl
 
 -- these four are all that a look-up asks
 pub look-up-accepted : (A format : ℕ) (v : Ray) → LookUpPassed A format v → firstFailed (lookUpChecks A format v) ≡ accepted

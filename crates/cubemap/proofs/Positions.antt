@@ -1,15 +1,18 @@
 -- The paper's T, a position in 64ths of a sample, one proof for both formats: it is 64 times the exact position rounded to the nearest whole
--- number, it lies within half a 64th, it runs from −32 to 64A−32, and a column's own number gives 64 times the column.
+-- number, it lies within half a 64th, it runs from −32 to 64A−32, and a column's own number gives 64 times the column. Divisions of natural
+-- numbers that fit 64 bits give it: one in CMP, three in ACP.
 use mathlib.Core.Path.{_≡_, refl, sym, _∙_, ap, ap₂, subst}
 use mathlib.Core.List.{[], _∷_}
-use Prim.Native.Nat.{ℕ, suc, _+_, _*_, _-_, _/_, _%_, _≤_, _<_}
-use native.Mathlib.Nat.{div-add-mod', mod-lt, mul-pos, mul-le-mul-left, le-of-suc-le-suc, div-lt-iff-lt-mul, le-trans, le-of-eq}
+use mathlib.Core.Bool.{Bool, cond}
+use Prim.Native.Nat.{ℕ, suc, _+_, _*_, _-_, _/_, _%_, _^_, _≤_, _<_}
+use native.Mathlib.Nat.{div-add-mod', mod-lt, mul-pos, mul-le-mul, mul-le-mul-left, mul-le-mul-right, le-of-suc-le-suc, lt-of-not-le}
+use native.Mathlib.Nat.{div-lt-iff-lt-mul, div-le-self, div-le-of-le-mul, div-eq-of-lt-le, div-div-eq-div-mul}
 use native.Mathlib.Omega.{arith}
-use lib.IntN.{ℤ, pos, negsuc, natAbs, _+ℤ_, _-ℤ_, _*ℤ_, +ℤ-invr}
+use lib.IntN.{ℤ, pos, negsuc, negℤ, natAbs, _+ℤ_, _-ℤ_, _*ℤ_, +ℤ-invr, +ℤ-comm}
 use lib.Signed.{_≤ℤ_}
-use Rattle.arithmetic.specs.Integers.{withSignOf}
+use Rattle.arithmetic.specs.Integers.{withSignOf, isNegative}
 use Rattle.arithmetic.proofs.Integers.{by-combination, neg-mul}
-use Rattle.arithmetic.proofs.Sizes.{pos-inj, natAbs-mul, natAbs-neg, pos-sub, difference-small, Lifted, lifted, own-sign, sign-size}
+use Rattle.arithmetic.proofs.Sizes.{pos-inj, natAbs-mul, natAbs-neg, pos-sub, difference-small, difference-inj, Lifted, lifted, own-sign, sign-size}
 use Rattle.arithmetic.proofs.Ring.{Expr, var, con, _⊕_, _⊗_, _⊝_, ⊖, solve}
 use Rattle.arithmetic.proofs.Order.{le-intro, le-elim}
 use Rattle.arithmetic.proofs.Floors.{floor-unique}
@@ -17,7 +20,7 @@ use Rattle.cubemap.specs.declared.Format.{Format}
 use Rattle.cubemap.specs.PlaceToRay.{N, fromCentre, curve, scale, faceCoordinate}
 use Rattle.cubemap.specs.RayToPlace.{Ratio, ratio, adjusted, exactPosition, roundHalfUp, position64}
 use Rattle.cubemap.proofs.Rounding.{IsRounded, rounded-is, rounded-only, rounded-error, rounded-near, rounded-times}
-use Rattle.cubemap.proofs.Curves.{bent, bent-rises, bent-end, curve-is, curve-next}
+use Rattle.cubemap.proofs.Curves.{bent, bent-most, curve-is, curve-next}
 use Rattle.cubemap.proofs.FaceCoordinates.{fromCentre-inside}
 
 -- T of a ratio g
@@ -57,7 +60,7 @@ pub adjusted-small : (format : Format) (x : ℤ) (d : ℕ) → natAbs x ≤ d �
 unfolding adjusted
 adjusted-small Format.Cmp x d h = h
 adjusted-small Format.Acp x d h =
-    subst (λ m. m ≤ 25 * d * d) (sym (acp-size x d h)) (le-trans (bent-rises d (natAbs x) d h (omega arith)) (le-of-eq (bent-end d)))
+    subst (λ m. m ≤ 25 * d * d) (sym (acp-size x d h)) (bent-most d (natAbs x) h)
 
 -- ---- rounding
 
@@ -91,10 +94,9 @@ pub record InRange (A : ℕ) (t : ℤ) : Type 0 where
   pub high : t ≤ℤ (pos (64 * A) -ℤ pos 32)
 
 -- T + 32 from the numerator of g with its denominator added: a division of natural numbers
-lifted-position : (A s e : ℕ) (n : ℤ) → 0 < e → n +ℤ pos e ≡ pos s
-    → positionOf A (ratio n e) ≡ pos ((2 * (32 * A * s) + e) / (2 * e)) -ℤ pos 32
+lifted-position : (A s e : ℕ) (n : ℤ) → 0 < e → n +ℤ pos e ≡ pos s → positionOf A (ratio n e) ≡ pos ((64 * A * s + e) / (2 * e)) -ℤ pos 32
 lifted-position A s e n h g =
-    let u : ℕ = 2 * (32 * A * s) + e in
+    let u : ℕ = 64 * A * s + e in
     let q : ℕ = u / (2 * e) in
     let r : ℕ = u % (2 * e) in
     let l : r < 2 * e = mod-lt u (omega arith) in
@@ -105,7 +107,7 @@ lifted-position A s e n h g =
     (pos (2 * (q * (2 * e) + r))) (pos (2 * u)) (ap (λ m. pos (2 * m)) (div-add-mod' u (2 * e)))
     (solve (pos A ∷ pos s ∷ pos e ∷ pos q ∷ pos r ∷ [])
     (con (pos 2) ⊗ (con (pos 64) ⊗ (var 0 ⊗ var 1 ⊝ var 2)) ⊕ D ⊕ con (pos 2) ⊗ (var 3 ⊗ D ⊕ var 4))
-    ((var 3 ⊝ con (pos 32)) ⊗ (con (pos 2) ⊗ D) ⊕ con (pos 2) ⊗ var 4 ⊕ con (pos 2) ⊗ (con (pos 2) ⊗ (con (pos 32) ⊗ var 0 ⊗ var 1) ⊕ var 2))
+    ((var 3 ⊝ con (pos 32)) ⊗ (con (pos 2) ⊗ D) ⊕ con (pos 2) ⊗ var 4 ⊕ con (pos 2) ⊗ (con (pos 64) ⊗ var 0 ⊗ var 1 ⊕ var 2))
     tt))
 
 -- T = q − 32 with q from 0 to 64A
@@ -117,7 +119,7 @@ pub record Shifted (A : ℕ) (t : ℤ) : Type 0 where
 pub position-shifted : (format : Format) (A : ℕ) (x : ℤ) (d : ℕ) → natAbs x ≤ d → 0 < d → Shifted A (position64 format A x d)
 unfolding position64
 position-shifted format A x d h p = record {
-  shift = (2 * (32 * A * w .lift) + e) / (2 * e);
+  shift = (64 * A * w .lift + e) / (2 * e);
   is = lifted-position A (w .lift) e n (adjusted-positive format x d p) (w .is);
   bounded = most (w .lift) (omega (arith, w .high, adjusted-small format x d h));
 }
@@ -131,7 +133,7 @@ position-shifted format A x d h p = record {
     w : Lifted n e
     w = lifted n e (adjusted-small format x d h)
 
-    most : (s : ℕ) → s ≤ 2 * e → (2 * (32 * A * s) + e) / (2 * e) ≤ 64 * A
+    most : (s : ℕ) → s ≤ 2 * e → (64 * A * s + e) / (2 * e) ≤ 64 * A
     most s l =
         let a = adjusted-positive format x d p in
         let b = mul-le-mul-left (64 * A) l in
@@ -164,6 +166,150 @@ in-range-shifted A t g =
     ∙ ap (λ z. z +ℤ pos 32) (w .1 ∙ ap (λ z. z +ℤ pos (w .0)) e)
     ∙ solve (pos (p .0) ∷ pos (w .0) ∷ []) (var 0 ⊝ con (pos 32) ⊕ var 1 ⊕ con (pos 32)) (var 0 ⊕ var 1) tt) in
     record { shift = p .0; is = e; bounded = omega arith }
+
+-- so whatever T is written as, T + 32 is at most 64A
+pub position-fits : (format : Format) (A : ℕ) (x : ℤ) (d q : ℕ) → natAbs x ≤ d → 0 < d → position64 format A x d ≡ pos q -ℤ pos 32 → q ≤ 64 * A
+position-fits format A x d q h p e =
+    let w = position-shifted format A x d h p in
+    omega (arith, w .bounded, difference-inj q (w .shift) 32 (sym e ∙ w .is))
+
+-- ---- T by divisions of natural numbers. CMP takes one.
+
+pub position-cmp : (A s : ℕ) (x : ℤ) (d : ℕ) → 0 < d → x +ℤ pos d ≡ pos s → position64 Format.Cmp A x d ≡ pos ((64 * A * s + d) / (2 * d)) -ℤ pos 32
+unfolding position64 adjusted
+position-cmp A s x d h g = lifted-position A s d x h g
+
+-- ACP takes three: its numerator 64·A·s + 25·d², with s = num + 25·d², divided by d and rounded down, of x = k and of x = −k
+abbrev acpAbove : ℕ → ℕ → ℕ → ℕ
+acpAbove A k d = 1600 * A * d + 25 * d + 2176 * A * k - 576 * A * (k * k / d) - (576 * A * (k * k % d) + (d - 1)) / d
+
+abbrev acpBelow : ℕ → ℕ → ℕ → ℕ
+acpBelow A k d = 1600 * A * d + 25 * d + 576 * A * (k * k / d) + 576 * A * (k * k % d) / d - 2176 * A * k
+
+abbrev pub acpFirst : ℕ → ℤ → ℕ → ℕ
+acpFirst A x d = cond (isNegative x) (acpBelow A (natAbs x) d) (acpAbove A (natAbs x) d)
+
+pub acp-first : (A : ℕ) (x : ℤ) (d k : ℕ) (b : Bool) → k ≡ natAbs x → isNegative x ≡ b → cond b (acpBelow A k d) (acpAbove A k d) ≡ acpFirst A x d
+acp-first A x d k b e t = ap₂ (λ b k. cond b (acpBelow A k d) (acpAbove A k d)) (sym t) e
+
+-- what the two signs share
+module _ (A k d : ℕ) (h : k ≤ d) (p : 0 < d) where
+  abbrev whole : ℕ
+  whole = k * k / d
+
+  abbrev part : ℕ
+  part = k * k % d
+
+  squares : A * (whole * d + part) ≡ A * (k * k)
+  squares = ap (λ m. A * m) (div-add-mod' (k * k) d)
+
+  part-small : A * part ≤ A * d
+  part-small = mul-le-mul-left A (let l = mod-lt (k * k) p in omega arith)
+
+  whole-small : A * whole ≤ A * k
+  whole-small = mul-le-mul-left A (div-le-of-le-mul d (mul-le-mul-right k h))
+
+  bent-split : A * (bent d k + 9 * (k * k)) ≡ A * (34 * k * d)
+  bent-split = ap (λ m. A * m) (go (34 * d - 9 * k) (omega arith))
+    where
+      go : (w : ℕ) → w + 9 * k ≡ 34 * d → k * w + 9 * (k * k) ≡ 34 * k * d
+      go w e = let f : k * (w + 9 * k) ≡ k * (34 * d) = ap (λ m. k * m) e in omega arith
+
+  -- the part's quotients, rounded up and rounded down
+  abbrev up : ℕ
+  up = (576 * A * part + (d - 1)) / d
+
+  abbrev low : ℕ
+  low = 576 * A * part / d
+
+  up-split : up * d + (576 * A * part + (d - 1)) % d ≡ 576 * A * part + (d - 1)
+  up-split = div-add-mod' (576 * A * part + (d - 1)) d
+
+  low-split : low * d + 576 * A * part % d ≡ 576 * A * part
+  low-split = div-add-mod' (576 * A * part) d
+
+  -- no difference goes below zero
+  above-zero : 576 * A * whole + up ≤ 1600 * A * d + 25 * d + 2176 * A * k
+  above-zero =
+      let u : up ≤ 576 * A * part + (d - 1) = div-le-self (576 * A * part + (d - 1)) d in
+      omega (arith, whole-small, part-small)
+
+  below-zero : 2176 * A * k ≤ 1600 * A * d + 25 * d + 576 * A * whole + low
+  below-zero = le-of-suc-le-suc (lt-of-not-le (λ (l : suc (1600 * A * d + 25 * d + 576 * A * whole + low) ≤ 2176 * A * k).
+      let m = mul-le-mul-right d l in
+      let r = mod-lt (576 * A * part) p in
+      omega (arith, squares, bent-split, low-split, mul-le-mul-left A (bent-most d k h))))
+
+  first-above : (64 * A * (bent d k + 25 * d * d) + 25 * d * d) / d ≡ acpAbove A k d
+  first-above = go (acpAbove A k d) (omega (arith, above-zero))
+    where
+      go : (f : ℕ) → f + (576 * A * whole + up) ≡ 1600 * A * d + 25 * d + 2176 * A * k → (64 * A * (bent d k + 25 * d * d) + 25 * d * d) / d ≡ f
+      go f e =
+          let g : (f + (576 * A * whole + up)) * d ≡ (1600 * A * d + 25 * d + 2176 * A * k) * d = ap (λ m. m * d) e in
+          let l = mod-lt (576 * A * part + (d - 1)) p in
+          div-eq-of-lt-le d (omega (arith, squares, bent-split, up-split)) (omega (arith, squares, bent-split, up-split))
+
+  first-below : (64 * A * (25 * d * d - bent d k) + 25 * d * d) / d ≡ acpBelow A k d
+  first-below = go (acpBelow A k d) (25 * d * d - bent d k) (omega (arith, below-zero)) (omega (arith, bent-most d k h))
+    where
+      go : (f s : ℕ) → f + 2176 * A * k ≡ 1600 * A * d + 25 * d + 576 * A * whole + low → s + bent d k ≡ 25 * d * d
+          → (64 * A * s + 25 * d * d) / d ≡ f
+      go f s e t =
+          let g : (f + 2176 * A * k) * d ≡ (1600 * A * d + 25 * d + 576 * A * whole + low) * d = ap (λ m. m * d) e in
+          let v : A * (s + bent d k) ≡ A * (25 * d * d) = ap (λ m. A * m) t in
+          let l = mod-lt (576 * A * part) p in
+          div-eq-of-lt-le d (omega (arith, squares, bent-split, low-split)) (omega (arith, squares, bent-split, low-split))
+
+-- and then by 50·d: dividing twice is dividing by the product
+pub position-acp : (A : ℕ) (x : ℤ) (d : ℕ) → natAbs x ≤ d → 0 < d → position64 Format.Acp A x d ≡ pos (acpFirst A x d / (50 * d)) -ℤ pos 32
+unfolding position64 adjusted
+position-acp A x d h p = go x h
+  where
+    twice : (x : ℤ) (s f : ℕ) → acp d x +ℤ pos (25 * d * d) ≡ pos s → (64 * A * s + 25 * d * d) / d ≡ f
+        → positionOf A (ratio (acp d x) (25 * d * d)) ≡ pos (f / (50 * d)) -ℤ pos 32
+    twice x s f g e =
+        let n : ℕ = 64 * A * s + 25 * d * d in
+        let w : 2 * (25 * d * d) ≡ d * (50 * d) = omega arith in
+        lifted-position A s (25 * d * d) (acp d x) (mul-pos (mul-pos {m = 25} (omega arith) p) p) g
+        ∙ ap (λ q. pos q -ℤ pos 32) (ap (λ m. n / m) w ∙ sym (div-div-eq-div-mul n d (50 * d)) ∙ ap (λ m. m / (50 * d)) e)
+
+    go : (x : ℤ) → natAbs x ≤ d → positionOf A (ratio (acp d x) (25 * d * d)) ≡ pos (acpFirst A x d / (50 * d)) -ℤ pos 32
+    go (pos k) h =
+        twice (pos k) (bent d k + 25 * d * d) (acpAbove A k d) (ap (λ z. z +ℤ pos (25 * d * d)) (acp-is d (pos k) k h)) (first-above A k d h p)
+    go (negsuc j) h = twice (negsuc j) (25 * d * d - bent d (suc j)) (acpBelow A (suc j) d)
+        (ap (λ z. z +ℤ pos (25 * d * d)) (acp-is d (negsuc j) (suc j) h) ∙ +ℤ-comm (negℤ (pos (bent d (suc j)))) (pos (25 * d * d))
+        ∙ pos-sub (25 * d * d) (bent d (suc j)) (bent-most d (suc j) h))
+        (first-below A (suc j) d h p)
+
+-- for k = |x|, every number on the way is below 2^60, and no difference goes below zero
+pub record AcpFits (A k d : ℕ) : Type 0 where
+  pub square : k * k < 2 ^ 60
+  pub whole : 576 * A * (k * k / d) < 2 ^ 60
+  pub part : 576 * A * (k * k % d) < 2 ^ 60
+  pub part-low : 576 * A * (k * k % d) / d < 2 ^ 60
+  pub linear : 2176 * A * k < 2 ^ 60
+  pub middle : 1600 * A * d < 2 ^ 60
+  pub above : 576 * A * (k * k / d) + (576 * A * (k * k % d) + (d - 1)) / d ≤ 1600 * A * d + 25 * d + 2176 * A * k
+  pub below : 2176 * A * k ≤ 1600 * A * d + 25 * d + 576 * A * (k * k / d) + 576 * A * (k * k % d) / d
+
+pub acp-fits : (A k d : ℕ) → A ≤ 512 → k ≤ d → 0 < d → d ≤ 536870911 → AcpFits A k d
+acp-fits A k d a h p b =
+    let s : k * k ≤ 536870911 * 536870911 = mul-le-mul {n₂ = 536870911} {m₂ = 536870911} (omega arith) (omega arith) in
+    let m : A * d ≤ 512 * 536870911 = mul-le-mul {n₂ = 512} {m₂ = 536870911} a b in
+    let w : A * k ≤ A * d = mul-le-mul-left A h in
+    let l = div-le-self (576 * A * (k * k % d)) d in
+    let q = whole-small A k d h p in
+    let r = part-small A k d h p in
+    record {
+      square = omega arith;
+      whole = omega arith;
+      part = omega arith;
+      part-low = omega arith;
+      linear = omega arith;
+      middle = omega arith;
+      above = above-zero A k d h p;
+      below = below-zero A k d h p;
+    }
 
 -- ---- a multiple of x and d
 

@@ -5,7 +5,8 @@ use mathlib.Core.Bool.{Bool, true, false, _&&_, _||_, cond}
 use mathlib.Core.List.{[], _∷_}
 use Prim.Native.Nat.{ℕ, zero, suc, _+_, _*_, _-_, _/_, _%_, _≤_, _<_, _∣_}
 use native.Mathlib.Nat.{mod-one, mod-eq-of-lt, div-add-mod', lt-of-not-le, mul-comm, mul-pos, mod-lt, dvd-zero, dvd-mul-left, dvd-mul-right}
-use native.Mathlib.Nat.{dvd-mod-iff, dvd-of-mod-eq-zero, mod-eq-zero-of-dvd, le-of-dvd, mul-dvd-mul-left, le-of-mul-le-mul-left, dvd-trans, div-le-self, le-trans}
+use native.Mathlib.Nat.{dvd-mod-iff, dvd-of-mod-eq-zero, mod-eq-zero-of-dvd, le-of-dvd, mul-dvd-mul-left, le-of-mul-le-mul-left}
+use native.Mathlib.Nat.{dvd-trans, div-le-self, le-trans}
 use native.Mathlib.Omega.{arith}
 use lib.Dec.{T, eqb, eqb→eq}
 use borrow.Author.Tests.{eq-eqb, ne-eqb, le-ltb}
@@ -264,9 +265,8 @@ divided-multiple t =
     (times-divided (t .e3) d (g .d3))
 
 -- the four quotients
-pub divided-numbers : (t : Rotation)
-    → divided t
-    ≡ rotation (dividedBy (commonDivisor t) (t .e0)) (dividedBy (commonDivisor t) (t .e1)) (dividedBy (commonDivisor t) (t .e2)) (dividedBy (commonDivisor t) (t .e3))
+pub divided-numbers : (t : Rotation) → let d : ℕ = commonDivisor t in
+    divided t ≡ rotation (dividedBy d (t .e0)) (dividedBy d (t .e1)) (dividedBy d (t .e2)) (dividedBy d (t .e3))
 unfolding divided
 divided-numbers t = refl
 

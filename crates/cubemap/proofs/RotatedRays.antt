@@ -1,12 +1,10 @@
 -- The ray of a place, rotated, is not zero and within the bound of check 13: its length is S times the ray's.
 use mathlib.Core.Path.{_≡_}
-use mathlib.Core.Bool.{Bool, _&&_}
-use Prim.Native.Nat.{ℕ, zero, _+_, _*_, _≤_, _<_}
+use Prim.Native.Nat.{ℕ, _+_, _*_, _≤_, _<_}
 use native.Mathlib.Nat.{mul-le-mul, mul-pos}
 use native.Mathlib.Omega.{arith}
-use lib.Dec.{T, eqb, eqb→eq, not-T}
+use lib.Dec.{T}
 use lib.IntN.{ℤ, pos, natAbs}
-use Rattle.arithmetic.proofs.Tests.{All3, and3}
 use Rattle.arithmetic.proofs.Sizes.{root-strictly}
 use Rattle.cubemap.specs.declared.Format.{Format}
 use Rattle.cubemap.specs.declared.Place.{Place}
@@ -16,7 +14,7 @@ use Rattle.cubemap.specs.Frames.{IsPlace}
 use Rattle.cubemap.specs.PlaceToRay.{N, scale, faceCoordinate, rayOf}
 use Rattle.cubemap.specs.Rotations.{sumOfSquares, rotated}
 use Rattle.cubemap.specs.Checks.{rotationInRange, rotationNonzero, rayInRange, rayNonzero}
-use Rattle.cubemap.proofs.Ranges.{in-range-ray}
+use Rattle.cubemap.proofs.Ranges.{in-range-ray, nonzero-ray}
 use Rattle.cubemap.proofs.FaceCoordinates.{coordinates, scale-positive, scale-bounded}
 use Rattle.cubemap.proofs.Faces.{table3-sizes}
 use Rattle.cubemap.proofs.Rotations.{sizeSquared, rotated-size, sum-positive, sum-bounded}
@@ -30,17 +28,10 @@ size-in-range r h = in-range-ray r (record { x = number (r .x) (omega arith); y 
     number z l = let m = root-strictly (natAbs z) 536870912 l in omega arith
 
 pub size-nonzero : (r : Ray) → 0 < sizeSquared r → T (rayNonzero r)
-unfolding rayNonzero
-size-nonzero r h = not-T (zero? (r .x) && zero? (r .y) && zero? (r .z)) (λ t. none (and3 (zero? (r .x)) (zero? (r .y)) (zero? (r .z)) t))
+size-nonzero r h = nonzero-ray r (λ p q w. absurd (omega (arith, square (r .x) p, square (r .y) q, square (r .z) w)))
   where
-    zero? : ℤ → Bool
-    zero? z = eqb (natAbs z) 0
-
-    square : (z : ℤ) → T (zero? z) → natAbs z * natAbs z ≡ 0
-    square z t = rw (eqb→eq (natAbs z) 0 t)
-
-    none : All3 (zero? (r .x)) (zero? (r .y)) (zero? (r .z)) → ⊥
-    none w = absurd (omega (arith, square (r .x) (w .first), square (r .y) (w .second), square (r .z) (w .third)))
+    square : (z : ℤ) → natAbs z ≡ 0 → natAbs z * natAbs z ≡ 0
+    square z e = rw e
 
 -- ---- the rays of places
 

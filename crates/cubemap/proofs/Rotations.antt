@@ -16,7 +16,7 @@ use Rattle.cubemap.specs.declared.Rotation.{Rotation}
 use Rattle.cubemap.specs.PlaceToRay.{ray, times}
 use Rattle.cubemap.specs.Rotations.{rotation, identity, sumOfSquares, row1, row2, row3, dot, rotated, product}
 use Rattle.cubemap.specs.Checks.{rotationInRange, rotationNonzero, rayInRange}
-use Rattle.cubemap.proofs.Ranges.{Within, RayWithin, rotation-range, in-range-rotation, ray-range, in-range-ray}
+use Rattle.cubemap.proofs.Ranges.{Within, rotation-range, in-range-rotation, ray-range, in-range-ray}
 
 pub ray-eq : {v w : Ray} → v .x ≡ w .x → v .y ≡ w .y → v .z ≡ w .z → v ≡ w
 ray-eq p q r = λ i. ray (p i) (q i) (r i)
@@ -205,7 +205,8 @@ rotated-axes t v = ray-eq refl (sym (ap (λ w. w .x) (rotated-next t v)))
 
 pub product-axes : (a b : Rotation)
     → product a b
-    ≡ rotation (product a b .e0) (product a b .e1) (product (nextAxis a) (nextAxis b) .e1) (product (nextAxis (nextAxis a)) (nextAxis (nextAxis b)) .e1)
+    ≡ rotation (product a b .e0) (product a b .e1)
+    (product (nextAxis a) (nextAxis b) .e1) (product (nextAxis (nextAxis a)) (nextAxis (nextAxis b)) .e1)
 product-axes a b = rotation-eq refl refl (sym (ap (λ t. t .e1) (product-next a b)))
     (sym (ap (λ t. t .e1) (product-next (nextAxis a) (nextAxis b)) ∙ ap (λ t. t .e2) (product-next a b)))
 

@@ -5,9 +5,6 @@ use mir.Facts.{toZ-ofZ}
 use borrow.Author.Needs.{needs}
 use Rattle.arithmetic.proofs.within.Statement.{statement}
 use Rattle.arithmetic.proofs.within.Tie as tie
-use Rattle.arithmetic.proofs.within.Reads as reads
-use Rattle.arithmetic.proofs.within.Lts as lts
-use Rattle.arithmetic.proofs.magnitude.Reads as magnitude-reads
 
 magnitude-requires : tie.Need-magnitude-requires
 magnitude-requires c κs = search needs

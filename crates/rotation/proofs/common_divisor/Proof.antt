@@ -54,7 +54,9 @@ module _ (c : tie.After-gcd3) where
   fits = rotation-fits (first .struct-told .given)
 
   front-is : IsGcd (natAbs (t .e0)) (natAbs (t .e1)) (front .gcd .result)
-  front-is = of-sizes (fits .f0) (fits .f1) (front .before .before .before .magnitude .ensures) (front .before .magnitude2 .ensures) (front .gcd .ensures)
+  front-is =
+      let g = front in
+      of-sizes (fits .f0) (fits .f1) (g .before .before .before .magnitude .ensures) (g .before .magnitude2 .ensures) (g .gcd .ensures)
 
   back-is : IsGcd (natAbs (t .e2)) (natAbs (t .e3)) (c .before .gcd2 .result)
   back-is =
@@ -64,7 +66,8 @@ module _ (c : tie.After-gcd3) where
 returns : tie.Need-returns
 returns c =
     let g = c .before in
-    sym (divisor-of-zeros (t g) (front g .gcd .result) (g .before .gcd2 .result) (g .gcd3 .result) (front-is g) (back-is g) (g .gcd3 .ensures) (c .if1 .taken))
+    sym (divisor-of-zeros (t g) (front g .gcd .result) (g .before .gcd2 .result) (g .gcd3 .result) (front-is g) (back-is g) (g .gcd3 .ensures)
+    (c .if1 .taken))
 
 returns-2 : tie.Need-returns-2
 returns-2 c =

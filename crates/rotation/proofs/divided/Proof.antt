@@ -9,7 +9,6 @@ use mir.Facts.{toZ-ofZ}
 use Rattle.arithmetic.proofs.Held.{held}
 use Rattle.cubemap.specs.declared.Rotation.{Rotation}
 use Rattle.cubemap.specs.Rotations.{commonDivisor, dividedBy}
-use Rattle.cubemap.proofs.Ranges.{Within}
 use Rattle.cubemap.proofs.Rotations.{rotation-eq}
 use Rattle.cubemap.proofs.Reduction.{divisor-positive, divided-numbers}
 use Rattle.rotation.proofs.divided.Statement.{statement}

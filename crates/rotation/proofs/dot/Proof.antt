@@ -1,4 +1,4 @@
-use Rattle.arithmetic.proofs.Held.{Held, mul, add, mul-ok, add-ok}
+use Rattle.arithmetic.proofs.Held.{mul, add, mul-ok, add-ok}
 use Rattle.cubemap.proofs.Ranges.{ray-range}
 use Rattle.rotation.proofs.Numbers.{HeldRay, held-ray}
 use Rattle.rotation.proofs.dot.Statement.{statement}

@@ -1,5 +1,5 @@
-use mathlib.Core.Path.{_≡_, sym, _∙_, ap}
-use mathlib.Core.Bool.{true}
+use mathlib.Core.Path.{sym, _∙_, ap}
+use lib.Dec.{T}
 use borrow.Author.Needs.{needs}
 use borrow.Author.Tests.{not-true, not-false}
 use Rattle.arithmetic.proofs.Tests.{passes, and-left, and-right}
@@ -7,7 +7,7 @@ use Rattle.cubemap.specs.declared.Rotation.{Rotation}
 use Rattle.cubemap.specs.Interface.{accepted}
 use Rattle.cubemap.specs.Checks.{rotationInRange}
 use Rattle.cubemap.specs.Outcomes.{result, equalValues}
-use Rattle.cubemap.proofs.Folds.{bothInRange, bothNonzero, equal-range, equal-zero, equal-accepted}
+use Rattle.cubemap.proofs.Folds.{bothInRange, equal-range, equal-zero, equal-accepted}
 use Rattle.rotation.proofs.equal.Statement.{statement}
 use Rattle.rotation.proofs.equal.Tie as tie
 
@@ -24,8 +24,8 @@ module _ (c : tie.Else1) where
   abbrev b : Rotation
   b = c .before .before .args .second
 
-  in-range : bothInRange a b ≡ true
-  in-range = sym (c .before .both-in-range .ensures) ∙ not-false (c .before .both-in-range .result) (c .if1 .left)
+  in-range : T (bothInRange a b)
+  in-range = passes (sym (c .before .both-in-range .ensures) ∙ not-false (c .before .both-in-range .result) (c .if1 .left))
 
 returns : tie.Need-returns
 returns c =
@@ -42,7 +42,7 @@ returns-2 c =
 same-rotation-requires : tie.Need-same-rotation-requires
 same-rotation-requires c κs =
     let r = c .before .before in
-    let h = passes (in-range r) in
+    let h = in-range r in
     (and-left (rotationInRange (a r)) (rotationInRange (b r)) h, and-right (rotationInRange (a r)) (rotationInRange (b r)) h)
 
 returns-3 : tie.Need-returns-3
@@ -50,7 +50,7 @@ returns-3 c =
     let n = c .before .before .both-nonzero in
     let r = c .before .before .before in
     ap (λ s. result accepted (equalValues s)) (c .same-rotation .ensures)
-    ∙ sym (equal-accepted (a r) (b r) (in-range r) (sym (n .ensures) ∙ not-false (n .result) (c .before .if2 .left)))
+    ∙ sym (equal-accepted (a r) (b r) (in-range r) (passes (sym (n .ensures) ∙ not-false (n .result) (c .before .if2 .left))))
 
 pub equal-spec : {M : Type 1} → statement M
 equal-spec =

@@ -1,5 +1,5 @@
 use mathlib.Core.Path.{_≡_, sym, _∙_, ap}
-use mathlib.Core.Bool.{true}
+use lib.Dec.{T}
 use borrow.Author.Needs.{needs}
 use borrow.Author.Tests.{not-true, not-false}
 use Rattle.arithmetic.proofs.Tests.{passes, and-left, and-right}
@@ -28,8 +28,8 @@ module _ (c : tie.Else1) where
   abbrev b : Rotation
   b = c .before .before .args .later
 
-  in-range : bothInRange a b ≡ true
-  in-range = sym (c .before .both-in-range .ensures) ∙ not-false (c .before .both-in-range .result) (c .if1 .left)
+  in-range : T (bothInRange a b)
+  in-range = passes (sym (c .before .both-in-range .ensures) ∙ not-false (c .before .both-in-range .result) (c .if1 .left))
 
 returns : tie.Need-returns
 returns c =
@@ -46,7 +46,7 @@ returns-2 c =
 compose-requires : tie.Need-compose-requires
 compose-requires c κs =
     let r = c .before .before in
-    let h = passes (in-range r) in
+    let h = in-range r in
     (and-left (rotationInRange (a r)) (rotationInRange (b r)) h, and-right (rotationInRange (a r)) (rotationInRange (b r)) h)
 
 module _ (c : tie.After-in-range) where
@@ -62,8 +62,8 @@ module _ (c : tie.After-in-range) where
   abbrev later : Rotation
   later = b ranges
 
-  both-nonzero : bothNonzero first later ≡ true
-  both-nonzero = let n = nonzero .before .both-nonzero in sym (n .ensures) ∙ not-false (n .result) (nonzero .if2 .left)
+  both-nonzero : T (bothNonzero first later)
+  both-nonzero = let n = nonzero .before .both-nonzero in passes (sym (n .ensures) ∙ not-false (n .result) (nonzero .if2 .left))
 
   folded-is : rotationInRange (compose first later) ≡ c .in-range .result
   folded-is = sym (c .in-range .ensures ∙ ap rotationInRange (c .before .compose .ensures))
@@ -77,7 +77,7 @@ returns-4 : tie.Need-returns-4
 returns-4 c =
     let t = c .before in
     ap (λ s. result accepted (foldValues s)) (t .before .compose .ensures)
-    ∙ sym (fold-accepted (first t) (later t) (in-range (ranges t)) (both-nonzero t) (folded-is t ∙ not-false (t .in-range .result) (c .if3 .left)))
+    ∙ sym (fold-accepted (first t) (later t) (in-range (ranges t)) (both-nonzero t) (passes (folded-is t ∙ not-false (t .in-range .result) (c .if3 .left))))
 
 pub fold-spec : {M : Type 1} → statement M
 fold-spec =

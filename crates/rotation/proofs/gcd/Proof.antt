@@ -1,5 +1,5 @@
 -- The divisor of the odd parts, with as many factors of two as both numbers have.
-use mathlib.Core.Path.{_≡_, sym, subst}
+use mathlib.Core.Path.{sym, subst}
 use native.Mathlib.Omega.{arith}
 use native.Mathlib.Nat.{le-of-lt}
 use Prim.Native.Nat.{ℕ, _<_}

@@ -1,4 +1,4 @@
-use mathlib.Core.Path.{_≡_, _∙_, ap}
+use mathlib.Core.Path.{_≡_, sym, _∙_, ap}
 use mathlib.Core.Bool.{Bool, _&&_}
 use lib.Dec.{leb}
 use lib.IntN.{ℤ, natAbs}
@@ -6,7 +6,7 @@ use borrow.Author.Needs.{needs}
 use mir.Syntax.{w64}
 use mir.Val.{SFits, toZ, ofZ}
 use mir.Facts.{toZ-ofZ}
-use Rattle.cubemap.specs.Checks.{rotationInRange}
+use Rattle.cubemap.proofs.Ranges.{rotation-range-tests}
 use Rattle.rotation.proofs.Numbers.{RotationFits, rotation-fits}
 use Rattle.rotation.proofs.in_range.Statement.{statement}
 use Rattle.rotation.proofs.in_range.Tie as tie
@@ -27,14 +27,15 @@ read-back : {x : ℤ} {b : Bool} → SFits w64 x → b ≡ leb (natAbs (toZ w64 
 read-back f e = e ∙ ap (λ z. leb (natAbs z) 31) (toZ-ofZ f)
 
 returns : tie.Need-returns
-unfolding rotationInRange
 returns c =
     let w3 = c .before in
     let w2 = w3 .before in
     let w1 = w2 .before in
-    let f : RotationFits (w1 .before .before .before .before .before .args .t) = rotation-fits (w1 .before .before .before .before .struct-told .given) in
-    λ i. read-back (f .f0) (w1 .within .ensures) i && read-back (f .f1) (w2 .within2 .ensures) i
-    && read-back (f .f2) (w3 .within3 .ensures) i && read-back (f .f3) (c .within4 .ensures) i
+    let s = w1 .before .before .before .before in
+    let f : RotationFits (s .before .args .t) = rotation-fits (s .struct-told .given) in
+    (λ i. read-back (f .f0) (w1 .within .ensures) i && read-back (f .f1) (w2 .within2 .ensures) i
+    && read-back (f .f2) (w3 .within3 .ensures) i && read-back (f .f3) (c .within4 .ensures) i)
+    ∙ sym (rotation-range-tests (s .before .args .t))
 
 pub in-range-spec : {M : Type 1} → statement M
 in-range-spec = tie.close (tie.spec within-requires within-requires-2 within-requires-3 within-requires-4 returns)

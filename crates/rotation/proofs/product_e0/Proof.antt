@@ -1,6 +1,6 @@
 -- Products of numbers of size at most 31, and their sums, stay far inside 64 bits.
 use mathlib.Core.Path.{sym, _∙_}
-use Rattle.arithmetic.proofs.Held.{Held, mul, sub, mul-ok, sub-ok}
+use Rattle.arithmetic.proofs.Held.{mul, sub, mul-ok, sub-ok}
 use Rattle.cubemap.proofs.Rotations.{product-axisless}
 use Rattle.rotation.proofs.Numbers.{HeldRotation, held-rotation}
 use Rattle.rotation.proofs.product_e0.Statement.{statement}

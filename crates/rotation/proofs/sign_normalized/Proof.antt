@@ -1,10 +1,10 @@
-use mathlib.Core.Path.{_≡_, sym, _∙_, ap}
+use mathlib.Core.Path.{_≡_, sym, _∙_}
 use Prim.Native.Nat.{_≤_}
 use lib.IntN.{ℤ, pos, negℤ, natAbs, _-ℤ_, +ℤ-idl}
 use borrow.Author.Needs.{needs}
 use mir.Syntax.{w64}
 use mir.Val.{SFits, toZ, ofZ}
-use Rattle.arithmetic.proofs.Held.{Held, held, held-literal, sub, sub-ok}
+use Rattle.arithmetic.proofs.Held.{held, held-literal, sub, sub-ok}
 use Rattle.cubemap.proofs.Rotations.{rotation-eq}
 use Rattle.cubemap.proofs.Reduction.{sign-changed, sign-kept}
 use Rattle.rotation.proofs.sign_normalized.Statement.{statement}

@@ -1,0 +1,72 @@
+-- How an answer comes out of a C call: two's complement, numbers in a lent buffer, and what a call gives by its result.
+use mathlib.Core.Path.{_≡_, refl, sym, _∙_, ap}
+use mathlib.Core.Bool.{true, false}
+use mathlib.Core.List.{List, [], _∷_, _++_}
+use Prim.Native.Nat.{ℕ, suc, _+_, _*_, _-_, _^_, _≤_, _<_}
+use native.Mathlib.Omega.{arith}
+use lib.Dec.{ltb→lt}
+use lib.ListN.{length, take, drop}
+use lib.IntN.{ℤ, pos, negsuc, natAbs}
+use lib.Signed.{ltZ}
+use borrow.Author.Tests.{le-leb, lt-leb}
+use Rattle.arithmetic.proofs.Tests.{passes, fails}
+use Rattle.cubemap.specs.declared.Refusal.{Refusal}
+use Rattle.cubemap.specs.Interface.{accepted, returnCode, littleEndian, twosComplement, putAt, putAll}
+use Rattle.cubemap.specs.Outcomes.{Result, result, refusal, refused, written}
+use Rattle.cubemap.specs.Promises.{Gives}
+
+-- ---- two's complement
+
+pub complement-below : (v : ℤ) → ltZ v (pos 0) ≡ true → twosComplement v ≡ 2 ^ 64 - natAbs v
+complement-below (pos n) e = absurd (omega (arith, ltb→lt n 0 (passes e)))
+complement-below (negsuc n) e = refl
+
+pub complement-above : (v : ℤ) → ltZ v (pos 0) ≡ false → twosComplement v ≡ natAbs v
+complement-above (pos n) e = refl
+complement-above (negsuc n) e = absurd (fails e tt)
+
+pub below-positive : (v : ℤ) → ltZ v (pos 0) ≡ true → 0 < natAbs v
+below-positive (pos n) e = absurd (omega (arith, ltb→lt n 0 (passes e)))
+below-positive (negsuc n) e = omega arith
+
+-- ---- one number in a buffer: where it fits whole, and where it does not
+
+pub put-whole : (buffer : List ℕ) (k : ℕ) (v : ℤ) → 8 * k + 8 ≤ length buffer
+    → putAt buffer k v ≡ take (8 * k) buffer ++ littleEndian 8 (twosComplement v) ++ drop (8 * k + 8) buffer
+unfolding putAt
+put-whole buffer k v h = rw (le-leb (8 * k + 8) (length buffer) h)
+
+pub put-short : (buffer : List ℕ) (k : ℕ) (v : ℤ) → length buffer < 8 * k + 8 → putAt buffer k v ≡ buffer
+unfolding putAt
+put-short buffer k v h = rw (lt-leb (8 * k + 8) (length buffer) h)
+
+-- the bits of a number are written as the number is
+pub put-bits : (buffer : List ℕ) (k : ℕ) (v : ℤ) → putAt buffer k (pos (twosComplement v)) ≡ putAt buffer k v
+unfolding putAt
+put-bits buffer k v = refl
+
+-- ---- several numbers, one by one
+
+pub put-none : (buffer : List ℕ) (k : ℕ) → putAll buffer k [] ≡ buffer
+unfolding putAll
+put-none buffer k = refl
+
+pub put-next : (buffer after : List ℕ) (k : ℕ) (v : ℤ) (vs : List ℤ) → after ≡ putAt buffer k v → putAll after (suc k) vs ≡ putAll buffer k (v ∷ vs)
+unfolding putAll
+put-next buffer after k v vs e = ap (λ b. putAll b (suc k) vs) e
+
+-- ---- what a call gives, by its result
+
+module _ (r : Result) (buffer after : List ℕ) where
+  -- accepted: 0 is returned, and the values are written
+  pub gives-accepted : (vs : List ℤ) → result accepted vs ≡ r → after ≡ putAll buffer 0 vs → Gives (written r buffer) 0 after
+  gives-accepted vs e h =
+      record { returns = ap (λ r. returnCode (r .answered)) e; holds = h ∙ ap (λ (r : Result). putAll buffer 0 (r .values)) e }
+
+  -- refused: the number and the index are returned, and the buffer stays
+  pub gives-refused : (which : Refusal) (code : ℕ) → refused which ≡ r → code ≡ returnCode (refusal which) → after ≡ buffer
+      → Gives (written r buffer) code after
+  gives-refused which code e c h = record {
+    returns = c ∙ ap (λ r. returnCode (r .answered)) e;
+    holds = h ∙ sym (put-none buffer 0) ∙ ap (λ (r : Result). putAll buffer 0 (r .values)) e;
+  }

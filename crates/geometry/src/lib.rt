@@ -1,0 +1,330 @@
+// From place to ray and from ray to place, on 64-bit numbers.
+ghost use mathlib.Core.Path.{_≡_};
+ghost use Prim.Native.Nat.{ℕ, _≤_, _<_};
+ghost use lib.Dec.{T};
+ghost use lib.ListN.{getD};
+ghost use lib.IntN.{pos, natAbs};
+ghost use Rattle.cubemap.specs.Interface.{formatOf};
+ghost use Rattle.cubemap.specs.Frames.{IsPlace};
+ghost use Rattle.cubemap.specs.PlaceToRay as paper;
+ghost use Rattle.cubemap.specs.RayToPlace.{faceOf, chosenSize, across, down, position64};
+ghost use Rattle.cubemap.specs.RayToPlace as toPlace;
+ghost use Rattle.cubemap.specs.Checks.{rayInRange, rayNonzero};
+ghost use Rattle.cubemap.specs.Outcomes.{lookedUpMeans, lookUpResult};
+ghost use Rattle.cubemap.proofs.Curves.{bent};
+ghost use Rattle.cubemap.proofs.Positions.{acpFirst};
+use cubemap::Format;
+use cubemap::Located;
+use cubemap::LookedUp;
+use cubemap::Place;
+use cubemap::Ray;
+use cubemap::Refusal;
+
+// N of the ACP curve.
+const N: u64 = 65536;
+
+// Code 0 is CMP; question 4 refuses every code but 0 and 1.
+pub fn format_of(code: u64) -> Format
+    ensures { λ r. ⌜ r ≡ formatOf code ⌝ }
+{
+    if code == 0 { Format::Cmp } else { Format::Acp }
+}
+
+// ---- from place to ray
+
+// c·(34N − 9c), the left side of equation 12.
+fn bent_at(c: u64) -> u64
+    requires { ⌜ c ≤ 65536 ⌝ }
+    ensures { λ r. ⌜ r ≡ bent 65536 c ⌝ }
+{
+    c * (34 * N - 9 * c)
+}
+
+// The largest whole c from 0 to N with c·(34N − 9c)·A ≤ 25·N²·k, by bisection: `low` passes, `high` does not or is beyond N.
+fn curve(size: u64, k: u64) -> u64
+    requires { ⌜ (size ≤ 512) × (k ≤ 512) ⌝ }
+    ensures { λ r. ⌜ r ≡ paper.curve size k ⌝ }
+{
+    let goal = 25 * N * N * k;
+    let mut low: u64 = 0;
+    let mut high: u64 = N + 1;
+    while low + 1 < high {
+        let middle = low + (high - low) / 2;
+        if bent_at(middle) * size <= goal {
+            low = middle;
+        } else {
+            high = middle;
+        }
+    }
+    low
+}
+
+// The scale s of a face's rays.
+pub fn scale(format: Format, size: u64) -> u64
+    ensures { λ r. ⌜ r ≡ paper.scale format size ⌝ }
+{
+    match format {
+        Format::Cmp => size,
+        Format::Acp => N,
+    }
+}
+
+// 2m + 1 − A, of a column or a row.
+fn from_centre(size: u64, m: u64) -> i64
+    requires { ⌜ (size ≤ 512) × (m < size) ⌝ }
+    ensures { λ r. ⌜ r ≡ paper.fromCentre size m ⌝ }
+{
+    (2 * m + 1) as i64 - size as i64
+}
+
+// The face coordinate of a column or a row: a of column m, b of row m.
+pub fn face_coordinate(format: Format, size: u64, m: u64) -> i64
+    requires { ⌜ (size ≤ 512) × (m < size) ⌝ }
+    ensures { λ r. ⌜ r ≡ paper.faceCoordinate format size m ⌝ }
+{
+    let p = from_centre(size, m);
+    match format {
+        Format::Cmp => p,
+        Format::Acp => arithmetic::with_sign_of(p, curve(size, arithmetic::magnitude(p))),
+    }
+}
+
+// The face coordinates of all columns of a face, which are those of its rows too. Entries from A on stay 0.
+pub fn face_coordinates(format: Format, size: u64) -> [i64; 512]
+    requires { ⌜ size ≤ 512 ⌝ }
+    ensures { λ r. ⌜ ((m : ℕ) → m < size → getD r m (pos 0) ≡ paper.faceCoordinate format size m) ⌝ }
+{
+    let mut coordinates = [0; 512];
+    let mut m: u64 = 0;
+    while m < size {
+        coordinates[m as usize] = face_coordinate(format, size, m);
+        m += 1;
+    }
+    coordinates
+}
+
+// A row of Table 3.
+fn table3(face: u64, s: i64, a: i64, b: i64) -> Ray
+    requires { ⌜ (face < 6) × (natAbs s ≤ 65536) × (natAbs a ≤ 65536) × (natAbs b ≤ 65536) ⌝ }
+    ensures { λ r. ⌜ r ≡ paper.table3 face s a b ⌝ }
+{
+    match face {
+        0 => Ray {
+            x: s,
+            y: 0 - b,
+            z: 0 - a,
+        },
+        1 => Ray {
+            x: 0 - s,
+            y: 0 - b,
+            z: a,
+        },
+        2 => Ray { x: a, y: s, z: b },
+        3 => Ray {
+            x: a,
+            y: 0 - s,
+            z: 0 - b,
+        },
+        4 => Ray {
+            x: a,
+            y: 0 - b,
+            z: s,
+        },
+        _ => Ray {
+            x: 0 - a,
+            y: 0 - b,
+            z: 0 - s,
+        },
+    }
+}
+
+// The ray of a place.
+pub fn ray_of(format: Format, size: u64, place: Place) -> Ray
+    requires { ⌜ (size ≤ 512) × IsPlace size place ⌝ }
+    ensures { λ r. ⌜ r ≡ paper.rayOf format size place ⌝ }
+{
+    let s = scale(format, size);
+    let a = face_coordinate(format, size, place.column);
+    let b = face_coordinate(format, size, place.row);
+    table3(place.face, s as i64, a, b)
+}
+
+// ---- from ray to place
+
+// What Table 4 gives for a ray: the face, u × d, v × d, and d.
+pub struct Facing {
+    pub face: u64,
+    pub across: i64,
+    pub down: i64,
+    pub distance: u64,
+}
+
+// Table 4. At equal sizes the earlier row wins.
+fn table4(v: Ray) -> Facing
+    requires { ⌜ T (rayInRange v) × T (rayNonzero v) ⌝ }
+    ensures { λ r. ⌜ (r .face ≡ faceOf v) × (r .across ≡ across (faceOf v) v) × (r .down ≡ down (faceOf v) v)
+        × (r .distance ≡ chosenSize (faceOf v) v) ⌝ }
+{
+    let x = v.x;
+    let y = v.y;
+    let z = v.z;
+    let sx = arithmetic::magnitude(x);
+    let sy = arithmetic::magnitude(y);
+    let sz = arithmetic::magnitude(z);
+    if sy <= sx && sz <= sx {
+        if 0 < x {
+            return Facing {
+                face: 0,
+                across: 0 - z,
+                down: 0 - y,
+                distance: sx,
+            };
+        }
+        return Facing {
+            face: 1,
+            across: z,
+            down: 0 - y,
+            distance: sx,
+        };
+    }
+    if sx <= sy && sz <= sy {
+        if 0 < y {
+            return Facing {
+                face: 2,
+                across: x,
+                down: z,
+                distance: sy,
+            };
+        }
+        return Facing {
+            face: 3,
+            across: x,
+            down: 0 - z,
+            distance: sy,
+        };
+    }
+    if 0 < z {
+        return Facing {
+            face: 4,
+            across: x,
+            down: 0 - y,
+            distance: sz,
+        };
+    }
+    Facing {
+        face: 5,
+        across: 0 - x,
+        down: 0 - y,
+        distance: sz,
+    }
+}
+
+// T of x / d in CMP: one division, of a number that is not negative.
+fn cmp_position(size: u64, x: i64, d: u64) -> i64
+    requires { ⌜ (size ≤ 512) × (0 < d) × (d ≤ 536870911) × (natAbs x ≤ d) ⌝ }
+    ensures { λ r. ⌜ r ≡ position64 Format.Cmp size x d ⌝ }
+{
+    let s = (x + d as i64) as u64;
+    ((64 * size * s + d) / (2 * d)) as i64 - 32
+}
+
+// The numerator of T + 32 in ACP, which exceeds 64 bits, divided by d and rounded down: by the quotient and the remainder of x² / d.
+fn acp_first(size: u64, x: i64, d: u64) -> u64
+    requires { ⌜ (size ≤ 512) × (0 < d) × (d ≤ 536870911) × (natAbs x ≤ d) ⌝ }
+    ensures { λ r. ⌜ (r ≡ acpFirst size x d) ⌝ }
+{
+    let k = arithmetic::magnitude(x);
+    let square = k * k;
+    let whole = 576 * size * (square / d);
+    let part = 576 * size * (square % d);
+    let linear = 2176 * size * k;
+    let middle = 1600 * size * d + 25 * d;
+    if x < 0 {
+        middle + whole + part / d - linear
+    } else {
+        middle + linear - whole - (part + (d - 1)) / d
+    }
+}
+
+// T of x / d in ACP: the nested divisions are exact.
+fn acp_position(size: u64, x: i64, d: u64) -> i64
+    requires { ⌜ (size ≤ 512) × (0 < d) × (d ≤ 536870911) × (natAbs x ≤ d) ⌝ }
+    ensures { λ r. ⌜ r ≡ position64 Format.Acp size x d ⌝ }
+{
+    (acp_first(size, x, d) / (50 * d)) as i64 - 32
+}
+
+// T of x / d.
+pub fn position(format: Format, size: u64, x: i64, d: u64) -> i64
+    requires { ⌜ (size ≤ 512) × (0 < d) × (d ≤ 536870911) × (natAbs x ≤ d) ⌝ }
+    ensures { λ r. ⌜ r ≡ position64 format size x d ⌝ }
+{
+    match format {
+        Format::Cmp => cmp_position(size, x, d),
+        Format::Acp => acp_position(size, x, d),
+    }
+}
+
+// Where a ray falls on a face of this size and format.
+pub fn locate(format: Format, size: u64, v: Ray) -> Located
+    requires { ⌜ (size ≤ 512) × T (rayInRange v) × T (rayNonzero v) ⌝ }
+    ensures { λ r. ⌜ r ≡ toPlace.locate format size v ⌝ }
+{
+    let f = table4(v);
+    let face = f.face;
+    let d = f.distance;
+    let column = position(format, size, f.across, d);
+    let row = position(format, size, f.down, d);
+    Located {
+        face: face,
+        column: column,
+        row: row,
+    }
+}
+
+// ---- the call
+
+// Question 13.
+pub fn in_range(v: Ray) -> bool
+    ensures { λ r. ⌜ r ≡ rayInRange v ⌝ }
+{
+    let x = v.x;
+    let y = v.y;
+    let z = v.z;
+    let sx = arithmetic::within(536870911, x);
+    let sy = arithmetic::within(536870911, y);
+    let sz = arithmetic::within(536870911, z);
+    sx & sy & sz
+}
+
+// Question 14.
+pub fn nonzero(v: Ray) -> bool
+    ensures { λ r. ⌜ r ≡ rayNonzero v ⌝ }
+{
+    let x = v.x;
+    let y = v.y;
+    let z = v.z;
+    !((x == 0) & (y == 0) & (z == 0))
+}
+
+// Look-up: questions 1, 4, 13 and 14, then where the ray falls.
+pub fn look_up(size: u64, format: u64, v: Ray) -> LookedUp
+    ensures { λ r. ⌜ lookedUpMeans r ≡ lookUpResult size format v ⌝ }
+{
+    if size < 1 {
+        return LookedUp::Refused(Refusal::FaceSize);
+    }
+    if 512 < size {
+        return LookedUp::Refused(Refusal::FaceSize);
+    }
+    if 1 < format {
+        return LookedUp::Refused(Refusal::Code);
+    }
+    if !in_range(v) {
+        return LookedUp::Refused(Refusal::RayRange);
+    }
+    if !nonzero(v) {
+        return LookedUp::Refused(Refusal::RayZero);
+    }
+    LookedUp::At(locate(format_of(format), size, v))
+}

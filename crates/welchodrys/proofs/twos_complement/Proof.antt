@@ -1,0 +1,45 @@
+use mathlib.Core.Path.{_≡_, sym, _∙_, ap, subst}
+use mathlib.Core.Bool.{true, false}
+use Prim.Native.Nat.{_-_}
+use native.Mathlib.Omega.{arith}
+use lib.IntN.{pos, natAbs}
+use lib.Signed.{ltZ}
+use borrow.Author.Needs.{needs}
+use mir.Facts.{toZ-ofZ}
+use Rattle.cubemap.proofs.Answers.{complement-below, complement-above, below-positive}
+use Rattle.welchodrys.proofs.twos_complement.Statement.{statement}
+use Rattle.welchodrys.proofs.twos_complement.Tie as tie
+
+magnitude-requires : tie.Need-magnitude-requires
+magnitude-requires c κs = search needs
+
+size-is : (c : tie.After-magnitude) → c .magnitude .result ≡ natAbs (c .before .args .v)
+size-is c = c .magnitude .ensures ∙ ap natAbs (toZ-ofZ (c .before .fits .v))
+
+module _ (c : tie.Then1) where
+  below : ltZ (c .before .before .args .v) (pos 0) ≡ true
+  below = subst (λ z. ltZ z (pos 0) ≡ true) (toZ-ofZ (c .before .before .fits .v)) (c .if1 .taken)
+
+sub-result : tie.Need-sub-result
+sub-result c = omega (arith, size-is (c .before), below-positive (c .before .before .args .v) (below c))
+
+sub-result-2 : tie.Need-sub-result-2
+sub-result-2 c = search needs
+
+returns : tie.Need-returns
+returns c =
+    omega (
+      arith,
+      size-is (c .before),
+      below-positive (c .before .before .args .v) (below c),
+      complement-below (c .before .before .args .v) (below c),
+    )
+
+returns-2 : tie.Need-returns-2
+returns-2 c =
+    let s = c .before .before in
+    size-is (c .before)
+    ∙ sym (complement-above (s .args .v) (subst (λ z. ltZ z (pos 0) ≡ false) (toZ-ofZ (s .fits .v)) (c .if1 .left)))
+
+pub twos-complement-spec : {M : Type 1} → statement M
+twos-complement-spec = tie.close (tie.spec magnitude-requires sub-result sub-result-2 returns returns-2)

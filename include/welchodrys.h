@@ -1,0 +1,91 @@
+/*
+ * Welchodrys: a part for cubemap frames, in the formats CMP and ACP of JVET-H1004, with exact integer arithmetic.
+ *
+ * Returns. Every call returns number + 256 * index. Number 0 is acceptance. Any other number is that of the first question with
+ * the answer "no"; the call is then refused, and no byte of the memory lent to it changes. The index is that of a sample with the
+ * numbers 10 and 11, and 0 with all others.
+ *
+ * Answers. An accepted call writes its answer into the buffer lent as (answer, answer_length): eight bytes a number, two's
+ * complement, little-endian, number k at bytes 8k to 8k + 7. A number that does not fit whole is not written, and every other
+ * byte stays. No length of an answer buffer is a refusal. A pointer may be NULL where its length is 0.
+ *
+ * What the caller owes. No buffer that a call writes overlaps another one lent to it; a call without this is outside every
+ * promise. A pointer that is not NULL points at as many bytes as its length says.
+ *
+ * Threads. Calls keep nothing and share nothing, so threads may call at the same time, each with buffers of its own.
+ */
+#ifndef WELCHODRYS_H
+#define WELCHODRYS_H
+
+#include <stddef.h>
+#include <stdint.h>
+
+#ifdef __cplusplus
+extern "C" {
+#endif
+
+/* The number and the index in what a call returned. */
+#define WELCHODRYS_NUMBER(code) ((code) % 256u)
+#define WELCHODRYS_INDEX(code) ((code) / 256u)
+
+/* The numbers, in the order in which questions are asked within a call. Each call below names those that it can return. */
+enum welchodrys_number {
+    WELCHODRYS_ACCEPTED = 0,
+    WELCHODRYS_FACE_SIZE = 1,      /* the (source) face size is not 1 to 512 */
+    WELCHODRYS_TARGET_SIZE = 2,    /* the target face size is not 1 to 512 */
+    WELCHODRYS_DEPTH = 3,          /* the depth is not 8 to 12 */
+    WELCHODRYS_CODE = 4,           /* a format or sampler code is neither 0 nor 1 */
+    WELCHODRYS_LAYOUT = 5,         /* a layout is not 12 bytes that hold every face once, with turns 0 to 3 */
+    WELCHODRYS_TURN_RANGE = 6,     /* a number of a turn is not -31 to 31 */
+    WELCHODRYS_TURN_ZERO = 7,      /* all four numbers of a turn are 0 */
+    WELCHODRYS_FIRST_LENGTH = 8,   /* the first buffer has not exactly the frame's bytes */
+    WELCHODRYS_SECOND_LENGTH = 9,  /* the second buffer has not exactly the frame's bytes */
+    WELCHODRYS_FIRST_SAMPLE = 10,  /* a sample of the first frame is beyond the depth; the lowest index of such a sample */
+    WELCHODRYS_SECOND_SAMPLE = 11, /* the same of the second frame */
+    WELCHODRYS_FOLDED_RANGE = 12,  /* a number of the folded turn is not -31 to 31 */
+    WELCHODRYS_RAY_RANGE = 13,     /* X, Y or Z is not -536870911 to 536870911 */
+    WELCHODRYS_RAY_ZERO = 14,      /* X, Y and Z are all 0 */
+    WELCHODRYS_RECORD_KIND = 15,   /* a record's kind is not 1, or its length not 15: the listing program only, no call */
+    WELCHODRYS_RECORD_CUT = 16     /* a record is not whole: the listing program only, no call */
+};
+
+/* The format codes. */
+enum welchodrys_format {
+    WELCHODRYS_CMP = 0,
+    WELCHODRYS_ACP = 1
+};
+
+/*
+ * Folds a first and a later turn into one: their quaternion product, the first on the left, divided by the greatest whole number
+ * that divides all four numbers; then, if the first nonzero number is negative, all four change sign.
+ *
+ * Asks 6 of both turns, then 7 of both, then 12 of the fold so reduced. Writes its four numbers, 32 bytes.
+ */
+uint64_t welchodrys_fold(int64_t first0, int64_t first1, int64_t first2, int64_t first3,
+    int64_t later0, int64_t later1, int64_t later2, int64_t later3, uint8_t *answer, size_t answer_length);
+
+/*
+ * Tests whether two turns are equal: whether both, reduced as a fold is, have the same four numbers. So a turn is equal to each
+ * of its multiples by a whole number other than 0.
+ *
+ * Asks 6 of both turns, then 7 of both. Writes one number, 8 bytes: 1 where they are equal, else 0.
+ */
+uint64_t welchodrys_equal(int64_t first0, int64_t first1, int64_t first2, int64_t first3,
+    int64_t second0, int64_t second1, int64_t second2, int64_t second3, uint8_t *answer, size_t answer_length);
+
+/*
+ * Looks up where the ray (x, y, z) meets a cube of this face size and format; the axes are X front, Y top, Z right. The axis with
+ * the largest size gives the face; at equal sizes X goes before Y, and Y before Z.
+ *
+ * Asks 1 of the size, 4 of the format, then 13 and 14 of the ray. Writes three numbers, 24 bytes: the face (0 front, 1 back, 2 top,
+ * 3 bottom, 4 right, 5 left), the column and the row. Column and row are in 64ths of a sample, rounded to the nearest, halves
+ * upward; they run from -32 to 64 * size - 32, and 64 * m is the middle of column or row m.
+ */
+uint64_t welchodrys_look_up(uint64_t size, uint64_t format, int64_t x, int64_t y, int64_t z,
+    uint8_t *answer, size_t answer_length);
+
+#ifdef __cplusplus
+}
+#endif
+
+#endif

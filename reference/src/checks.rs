@@ -1,0 +1,60 @@
+//! The paper's section "Questions, in order": each check names the paper's number, and the first that fails ends the call.
+
+use crate::positions::Format;
+use crate::rotations::Rotation;
+
+/// "A "no" ends the call with that number. For 10 and 11 the lowest offending index comes with it, for the others 0."
+#[derive(Clone, Copy, Debug, PartialEq, Eq)]
+pub struct Refusal {
+    pub number: u64,
+    pub index: u64,
+}
+
+fn ask(number: u64, holds: bool) -> Result<(), Refusal> {
+    if holds {
+        Ok(())
+    } else {
+        Err(Refusal { number, index: 0 })
+    }
+}
+
+/// Whether all numbers are −31 to 31.
+fn small(rotation: &Rotation) -> bool {
+    rotation.iter().all(|number| (-31..=31).contains(number))
+}
+
+/// "1. Is the (source) face size 1 to 512?"
+pub fn face_size(size: i128) -> Result<(), Refusal> {
+    ask(1, (1..=512).contains(&size))
+}
+
+/// "4. Is each format and sampler code 0 or 1?", of a format.
+pub fn format(code: i128) -> Result<Format, Refusal> {
+    ask(4, code == 0 || code == 1)?;
+    Ok(if code == 0 { Format::Cmp } else { Format::Acp })
+}
+
+/// "6. Are all numbers of each turn −31 to 31?"
+pub fn rotation_range(rotations: &[Rotation]) -> Result<(), Refusal> {
+    ask(6, rotations.iter().all(small))
+}
+
+/// "7. Has each turn a nonzero number?"
+pub fn rotation_nonzero(rotations: &[Rotation]) -> Result<(), Refusal> {
+    ask(7, rotations.iter().all(|rotation| rotation.iter().any(|&number| number != 0)))
+}
+
+/// "12. Is each number of the folded turn −31 to 31?"
+pub fn composed_range(composed: Rotation) -> Result<(), Refusal> {
+    ask(12, small(&composed))
+}
+
+/// "13. Are X, Y, Z −536,870,911 to 536,870,911?"
+pub fn ray_range(ray: [i128; 3]) -> Result<(), Refusal> {
+    ask(13, ray.iter().all(|number| (-536_870_911..=536_870_911).contains(number)))
+}
+
+/// "14. Is one of them nonzero?"
+pub fn ray_nonzero(ray: [i128; 3]) -> Result<(), Refusal> {
+    ask(14, ray.iter().any(|&number| number != 0))
+}

@@ -1,0 +1,9 @@
+//! The paper ("Cubemap frames: turning, resampling and scoring") in plain Rust: written from its sentences, which are quoted
+//! above the functions, with exact whole numbers of 128 bits. It is meant to be read beside the paper and is not made for speed.
+//!
+//! The paper's turn, fold, question, T and look-up are rotation, composition, check, position64 and location here.
+
+pub mod calls;
+pub mod checks;
+pub mod positions;
+pub mod rotations;
