@@ -89,7 +89,7 @@ pub fn face_coordinate(format: Format, size: u64, m: u64) -> i64
     }
 }
 
-// The face coordinates of all columns of a face, which are those of its rows too. Entries from A on stay 0.
+// The face coordinates of all columns of a face, which are those of its rows too. Nothing is said of the entries from A on.
 pub fn face_coordinates(format: Format, size: u64) -> [i64; 512]
     requires { ⌜ size ≤ 512 ⌝ }
     ensures { λ r. ⌜ ((m : ℕ) → m < size → getD r m (pos 0) ≡ paper.faceCoordinate format size m) ⌝ }

@@ -141,7 +141,8 @@ pub extern "C" fn welchodrys_fold(
     later3: i64,
     answer: &mut [u8],
 ) -> u64
-    ensures { λ r. ⌜ FoldPromise (rotation first0 first1 first2 first3) (rotation later0 later1 later2 later3) (now (answer .entry)) r (now (answer .exit)) ⌝ }
+    ensures { λ r. ⌜ FoldPromise (rotation first0 first1 first2 first3) (rotation later0 later1 later2 later3)
+        (now (answer .entry)) r (now (answer .exit)) ⌝ }
 {
     let first = Rotation {
         e0: first0,
@@ -178,7 +179,8 @@ pub extern "C" fn welchodrys_equal(
     second3: i64,
     answer: &mut [u8],
 ) -> u64
-    ensures { λ r. ⌜ EqualPromise (rotation first0 first1 first2 first3) (rotation second0 second1 second2 second3) (now (answer .entry)) r (now (answer .exit)) ⌝ }
+    ensures { λ r. ⌜ EqualPromise (rotation first0 first1 first2 first3) (rotation second0 second1 second2 second3)
+        (now (answer .entry)) r (now (answer .exit)) ⌝ }
 {
     let first = Rotation {
         e0: first0,

@@ -1,10 +1,10 @@
 use mathlib.Core.Path.{_≡_, sym, _∙_}
 use Prim.Native.Nat.{_≤_}
-use lib.IntN.{ℤ, pos, negℤ, natAbs, _-ℤ_, +ℤ-idl}
+use lib.IntN.{ℤ, pos, negℤ, natAbs, _-ℤ_}
 use borrow.Author.Needs.{needs}
 use mir.Syntax.{w64}
 use mir.Val.{SFits, toZ, ofZ}
-use Rattle.arithmetic.proofs.Held.{held, held-literal, sub, sub-ok}
+use Rattle.arithmetic.proofs.Held.{held, opposite, opposite-ok}
 use Rattle.cubemap.proofs.Rotations.{rotation-eq}
 use Rattle.cubemap.proofs.Reduction.{sign-changed, sign-kept}
 use Rattle.rotation.proofs.sign_normalized.Statement.{statement}
@@ -13,12 +13,12 @@ use Rattle.rotation.proofs.sign_normalized.Tie as tie
 first-negative-requires : tie.Need-first-negative-requires
 first-negative-requires c κs = search needs
 
--- a sign that changes
-opposite-fits : (x : ℤ) → natAbs x ≤ 3844 → SFits w64 (pos 0 -ℤ toZ w64 (ofZ w64 x))
-opposite-fits x h = sub-ok (held-literal 0 tt) (held x h tt) tt
+module _ (x : ℤ) (h : natAbs x ≤ 3844) where
+  opposite-fits : SFits w64 (pos 0 -ℤ toZ w64 (ofZ w64 x))
+  opposite-fits = opposite-ok (held x h tt) tt
 
-opposite-is : (x : ℤ) → natAbs x ≤ 3844 → toZ w64 (ofZ w64 (pos 0 -ℤ toZ w64 (ofZ w64 x))) ≡ negℤ x
-opposite-is x h = sub (held-literal 0 tt) (held x h tt) tt .is ∙ +ℤ-idl (negℤ x)
+  opposite-is : toZ w64 (ofZ w64 (pos 0 -ℤ toZ w64 (ofZ w64 x))) ≡ negℤ x
+  opposite-is = opposite (held x h tt) tt .is
 
 abbrev start : tie.After-struct-told4 → tie.Start
 start c = c .before .before .before .before .before .before
