@@ -1,5 +1,5 @@
 -- Laws of tests: what a passed test says of its parts, and what it chooses.
-use mathlib.Core.Path.{_≡_, refl, sym, _∙_, ap, subst}
+use mathlib.Core.Path.{_≡_, refl, sym, subst}
 use mathlib.Core.Logic.{_⊎_, inl, inr}
 use mathlib.Core.Bool.{Bool, true, false, _&&_, _||_, cond}
 use lib.Dec.{T}
@@ -37,13 +37,6 @@ and-both false b s t = absurd s
 pub and-false : (b : Bool) → (b && false) ≡ false
 and-false true = refl
 and-false false = refl
-
--- the second test is made only where the first passes
-pub and-second : {a : Bool} (b : Bool) → a ≡ true → b ≡ (a && b)
-and-second b e = ap (λ a. a && b) (sym e)
-
-pub and-first : {a : Bool} (b : Bool) → a ≡ false → a ≡ (a && b)
-and-first b e = e ∙ ap (λ a. a && b) (sym e)
 
 -- three and four tests in a row
 pub record All3 (a b c : Bool) : Type 0 where

@@ -288,12 +288,9 @@ pub fn locate(format: Format, size: u64, v: Ray) -> Located
 pub fn in_range(v: Ray) -> bool
     ensures { λ r. ⌜ r ≡ rayInRange v ⌝ }
 {
-    let x = v.x;
-    let y = v.y;
-    let z = v.z;
-    let sx = arithmetic::within(536870911, x);
-    let sy = arithmetic::within(536870911, y);
-    let sz = arithmetic::within(536870911, z);
+    let sx = arithmetic::within(536870911, v.x);
+    let sy = arithmetic::within(536870911, v.y);
+    let sz = arithmetic::within(536870911, v.z);
     sx & sy & sz
 }
 

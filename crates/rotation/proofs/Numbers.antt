@@ -1,11 +1,10 @@
 -- What the machine holds of rotations and rays.
 use mathlib.Core.Path.{_≡_, sym, subst}
-use Prim.Native.Nat.{ℕ, _^_, _≤_, _<_}
+use Prim.Native.Nat.{ℕ, _^_, _≤_}
 use lib.Dec.{T, ltb}
 use lib.IntN.{ℤ, natAbs}
-use lib.Signed.{mag}
 use mir.Syntax.{w64}
-use mir.Val.{SFits, ofZ, toZ}
+use mir.Val.{ofZ, toZ}
 use Rattle.arithmetic.proofs.Held.{Held, held}
 use Rattle.cubemap.specs.declared.Ray.{Ray}
 use Rattle.cubemap.specs.declared.Rotation.{Rotation}
@@ -43,23 +42,3 @@ ray-of-held {B} p q r = (
   where
     small : {n : ℕ} {x : ℤ} → Held n x B → natAbs (toZ w64 n) ≤ B
     small h = subst (λ z. natAbs z ≤ B) (sym (h .is)) (h .small)
-
--- ---- any rotation and any ray: their numbers fit, as a field's reading tells
-
-pub record RotationFits (t : Rotation) : Type 0 where
-  pub f0 : SFits w64 (t .e0)
-  pub f1 : SFits w64 (t .e1)
-  pub f2 : SFits w64 (t .e2)
-  pub f3 : SFits w64 (t .e3)
-
-abbrev Fit : ℤ → Type 0
-Fit x = mag x < 2 ^ 63
-
-pub rotation-fits : {P Q R S Rest : Type 0} {t : Rotation}
-    → (P × Fit (t .e0)) × ((Q × Fit (t .e1)) × ((R × Fit (t .e2)) × ((S × Fit (t .e3)) × Rest))) → RotationFits t
-rotation-fits g = record {
-  f0 = record { sfits = g .0 .1 };
-  f1 = record { sfits = g .1 .0 .1 };
-  f2 = record { sfits = g .1 .1 .0 .1 };
-  f3 = record { sfits = g .1 .1 .1 .0 .1 };
-}

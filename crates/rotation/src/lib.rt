@@ -320,14 +320,10 @@ pub fn same_rotation(a: Rotation, b: Rotation) -> bool
 pub fn in_range(t: Rotation) -> bool
     ensures { λ r. ⌜ r ≡ rotationInRange t ⌝ }
 {
-    let e0 = t.e0;
-    let e1 = t.e1;
-    let e2 = t.e2;
-    let e3 = t.e3;
-    let s0 = arithmetic::within(31, e0);
-    let s1 = arithmetic::within(31, e1);
-    let s2 = arithmetic::within(31, e2);
-    let s3 = arithmetic::within(31, e3);
+    let s0 = arithmetic::within(31, t.e0);
+    let s1 = arithmetic::within(31, t.e1);
+    let s2 = arithmetic::within(31, t.e2);
+    let s3 = arithmetic::within(31, t.e3);
     s0 & s1 & s2 & s3
 }
 

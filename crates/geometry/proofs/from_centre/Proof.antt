@@ -25,11 +25,11 @@ module _ (c : tie.Start) where
   size : Held (c .args .size) (pos (c .args .size)) 512
   size = held-nat (c .pre .0) tt
 
-sub-result : tie.Need-sub-result
-sub-result c = sub-ok (double c) (size c) tt
-
 returns : tie.Need-returns
 returns c = sub (double c) (size c) tt .is
+
+sub-result : tie.Need-sub-result
+sub-result c = sub-ok (double c) (size c) tt
 
 pub from-centre-spec : {M : Type 1} → statement M
 from-centre-spec =

@@ -27,9 +27,9 @@ read-back x f e = e ∙ ap near (toZ-ofZ f)
 
 returns : tie.Need-returns
 returns c =
-    let w2 = c .before in
-    let w1 = w2 .before in
-    let v = w1 .before .before .before .before .args .v in
+    let w2 = c .before .before in
+    let w1 = w2 .before .before in
+    let v = w1 .before .before .args .v in
     (λ i. read-back (v .x) (search needs) (w1 .within .ensures) i && read-back (v .y) (search needs) (w2 .within2 .ensures) i
     && read-back (v .z) (search needs) (c .within3 .ensures) i)
     ∙ sym (ray-range-tests v)

@@ -40,12 +40,6 @@ module _ (c : tie.After-table4) where
   position-is x r h fits e =
       toZ-ofZ fits ∙ e ∙ ap (λ x. position64 (c .before .args .format) (c .before .args .size) x (f .distance)) (read x h)
 
-position-requires : tie.Need-position-requires
-position-requires c κs = asks (c .before) (f (c .before) .across) (ratios (c .before) .across-ok)
-
-position-requires-2 : tie.Need-position-requires-2
-position-requires-2 c κs = asks (c .before .before .before) (f (c .before .before .before) .down) (ratios (c .before .before .before) .down-ok)
-
 returns : tie.Need-returns
 returns c =
     let t : tie.After-table4 = c .before .before .before .before in
@@ -54,6 +48,12 @@ returns c =
     (position-is t (f t .down) (c .position2 .result) (ratios t .down-ok) (search needs) (c .position2 .ensures) i))
     ∙ sym (locate-is (t .before .args .format) (t .before .args .size) (t .before .args .v) (f t .face) (f t .across) (f t .down) (f t .distance)
     (t .table4 .ensures))
+
+position-requires : tie.Need-position-requires
+position-requires c κs = asks (c .before) (f (c .before) .across) (ratios (c .before) .across-ok)
+
+position-requires-2 : tie.Need-position-requires-2
+position-requires-2 c κs = asks (c .before .before .before) (f (c .before .before .before) .down) (ratios (c .before .before .before) .down-ok)
 
 pub locate-spec : {M : Type 1} → statement M
 locate-spec = tie.close (tie.spec table4-requires position-requires position-requires-2 returns)

@@ -10,7 +10,6 @@ use mir.Facts.{toZ-ofZ}
 use Rattle.arithmetic.proofs.Divisors.{IsGcd}
 use Rattle.cubemap.specs.declared.Rotation.{Rotation}
 use Rattle.cubemap.proofs.Reduction.{divisor-by-pairs, divisor-of-zeros}
-use Rattle.rotation.proofs.Numbers.{RotationFits, rotation-fits}
 use Rattle.rotation.proofs.common_divisor.Statement.{statement}
 use Rattle.rotation.proofs.common_divisor.Tie as tie
 
@@ -36,32 +35,28 @@ gcd-requires-3 : tie.Need-gcd-requires-3
 gcd-requires-3 c κs = search needs
 
 -- a divisor of two numbers' sizes, as the machine read the numbers
-of-sizes : {x y : ℤ} {m n g : ℕ} → SFits w64 x → SFits w64 y → m ≡ natAbs (toZ w64 (ofZ w64 x)) → n ≡ natAbs (toZ w64 (ofZ w64 y)) → IsGcd m n g
+of-sizes : {m n g : ℕ} (x y : ℤ) → SFits w64 x → SFits w64 y → m ≡ natAbs (toZ w64 (ofZ w64 x)) → n ≡ natAbs (toZ w64 (ofZ w64 y)) → IsGcd m n g
     → IsGcd (natAbs x) (natAbs y) g
-of-sizes {x} {y} {m} {n} {g} p q e f h = subst₂ (λ j k. IsGcd j k g) (e ∙ ap natAbs (toZ-ofZ p)) (f ∙ ap natAbs (toZ-ofZ q)) h
+of-sizes {m} {n} {g} x y p q e f h = subst₂ (λ j k. IsGcd j k g) (e ∙ ap natAbs (toZ-ofZ p)) (f ∙ ap natAbs (toZ-ofZ q)) h
 
 module _ (c : tie.After-gcd3) where
   abbrev front : tie.After-gcd
   front = c .before .before .before .before .before .before
 
-  abbrev first : tie.After-struct-told
-  first = front .before .before .before .before
-
   abbrev t : Rotation
-  t = first .before .args .t
-
-  fits : RotationFits t
-  fits = rotation-fits (first .struct-told .given)
+  t = front .before .before .before .before .before .args .t
 
   front-is : IsGcd (natAbs (t .e0)) (natAbs (t .e1)) (front .gcd .result)
   front-is =
       let g = front in
-      of-sizes (fits .f0) (fits .f1) (g .before .before .before .magnitude .ensures) (g .before .magnitude2 .ensures) (g .gcd .ensures)
+      of-sizes (t .e0) (t .e1) (search needs) (search needs)
+      (g .before .before .before .magnitude .ensures) (g .before .magnitude2 .ensures) (g .gcd .ensures)
 
   back-is : IsGcd (natAbs (t .e2)) (natAbs (t .e3)) (c .before .gcd2 .result)
   back-is =
       let b = c .before in
-      of-sizes (fits .f2) (fits .f3) (b .before .before .before .magnitude3 .ensures) (b .before .magnitude4 .ensures) (b .gcd2 .ensures)
+      of-sizes (t .e2) (t .e3) (search needs) (search needs)
+      (b .before .before .before .magnitude3 .ensures) (b .before .magnitude4 .ensures) (b .gcd2 .ensures)
 
 returns : tie.Need-returns
 returns c =

@@ -6,7 +6,6 @@ use mir.Syntax.{w64}
 use mir.Val.{SFits, toZ, ofZ}
 use mir.Facts.{toZ-ofZ}
 use Rattle.cubemap.specs.Rotations.{leadNegative}
-use Rattle.rotation.proofs.Numbers.{RotationFits, rotation-fits}
 use Rattle.rotation.proofs.first_negative.Statement.{statement}
 use Rattle.rotation.proofs.first_negative.Tie as tie
 
@@ -22,17 +21,17 @@ lead-negative-requires-3 c κs = search needs
 lead-negative-requires-4 : tie.Need-lead-negative-requires-4
 lead-negative-requires-4 c κs = search needs
 
-read-back : {x : ℤ} {r a b : Bool} → SFits w64 x → r ≡ leadNegative (toZ w64 (ofZ w64 x)) a → a ≡ b → r ≡ leadNegative x b
-read-back f e p = e ∙ ap₂ leadNegative (toZ-ofZ f) p
+read-back : {r a b : Bool} (x : ℤ) → SFits w64 x → r ≡ leadNegative (toZ w64 (ofZ w64 x)) a → a ≡ b → r ≡ leadNegative x b
+read-back x f e p = e ∙ ap₂ leadNegative (toZ-ofZ f) p
 
 returns : tie.Need-returns
 returns c =
     let n1 = c .before .before in
     let n2 = n1 .before .before in
     let n3 = n2 .before .before in
-    let f : RotationFits (n3 .before .before .args .t) = rotation-fits (n3 .before .struct-told .given) in
-    read-back (f .f0) (c .lead-negative4 .ensures) (read-back (f .f1) (n1 .lead-negative3 .ensures)
-    (read-back (f .f2) (n2 .lead-negative2 .ensures) (read-back (f .f3) (n3 .lead-negative .ensures) refl)))
+    let t = n3 .before .before .args .t in
+    read-back (t .e0) (search needs) (c .lead-negative4 .ensures) (read-back (t .e1) (search needs) (n1 .lead-negative3 .ensures)
+    (read-back (t .e2) (search needs) (n2 .lead-negative2 .ensures) (read-back (t .e3) (search needs) (n3 .lead-negative .ensures) refl)))
 
 pub first-negative-spec : {M : Type 1} → statement M
 first-negative-spec =

@@ -77,7 +77,8 @@ returns-4 : tie.Need-returns-4
 returns-4 c =
     let t = c .before in
     ap (λ s. result accepted (foldValues s)) (t .before .compose .ensures)
-    ∙ sym (fold-accepted (first t) (later t) (in-range (ranges t)) (both-nonzero t) (passes (folded-is t ∙ not-false (t .in-range .result) (c .if3 .left))))
+    ∙ sym (fold-accepted (first t) (later t) (in-range (ranges t)) (both-nonzero t)
+    (passes (folded-is t ∙ not-false (t .in-range .result) (c .if3 .left))))
 
 pub fold-spec : {M : Type 1} → statement M
 fold-spec =

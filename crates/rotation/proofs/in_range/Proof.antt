@@ -7,7 +7,6 @@ use mir.Syntax.{w64}
 use mir.Val.{SFits, toZ, ofZ}
 use mir.Facts.{toZ-ofZ}
 use Rattle.cubemap.proofs.Ranges.{rotation-range-tests}
-use Rattle.rotation.proofs.Numbers.{RotationFits, rotation-fits}
 use Rattle.rotation.proofs.in_range.Statement.{statement}
 use Rattle.rotation.proofs.in_range.Tie as tie
 
@@ -23,19 +22,18 @@ within-requires-3 c κs = search needs
 within-requires-4 : tie.Need-within-requires-4
 within-requires-4 c κs = search needs
 
-read-back : {x : ℤ} {b : Bool} → SFits w64 x → b ≡ leb (natAbs (toZ w64 (ofZ w64 x))) 31 → b ≡ leb (natAbs x) 31
-read-back f e = e ∙ ap (λ z. leb (natAbs z) 31) (toZ-ofZ f)
+read-back : {b : Bool} (x : ℤ) → SFits w64 x → b ≡ leb (natAbs (toZ w64 (ofZ w64 x))) 31 → b ≡ leb (natAbs x) 31
+read-back x f e = e ∙ ap (λ z. leb (natAbs z) 31) (toZ-ofZ f)
 
 returns : tie.Need-returns
 returns c =
-    let w3 = c .before in
-    let w2 = w3 .before in
-    let w1 = w2 .before in
-    let s = w1 .before .before .before .before in
-    let f : RotationFits (s .before .args .t) = rotation-fits (s .struct-told .given) in
-    (λ i. read-back (f .f0) (w1 .within .ensures) i && read-back (f .f1) (w2 .within2 .ensures) i
-    && read-back (f .f2) (w3 .within3 .ensures) i && read-back (f .f3) (c .within4 .ensures) i)
-    ∙ sym (rotation-range-tests (s .before .args .t))
+    let w3 = c .before .before in
+    let w2 = w3 .before .before in
+    let w1 = w2 .before .before in
+    let t = w1 .before .before .args .t in
+    (λ i. read-back (t .e0) (search needs) (w1 .within .ensures) i && read-back (t .e1) (search needs) (w2 .within2 .ensures) i
+    && read-back (t .e2) (search needs) (w3 .within3 .ensures) i && read-back (t .e3) (search needs) (c .within4 .ensures) i)
+    ∙ sym (rotation-range-tests t)
 
 pub in-range-spec : {M : Type 1} → statement M
 in-range-spec = tie.close (tie.spec within-requires within-requires-2 within-requires-3 within-requires-4 returns)

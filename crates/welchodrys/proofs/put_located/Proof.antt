@@ -26,13 +26,12 @@ returns c =
     let w0 = w1 .before .before .before .before .before in
     let a = w0 .before .before .before .args in
     let p = a .p in
-    let told = w1 .before .struct-told .given in
     let b0 = w0 .put .last .0 in
     let b1 = w1 .put-signed .last .0 in
     let b2 = w2 .put-signed2 .last .0 in
     sym (put-none b2 3)
-    ∙ put-read b1 b2 2 (p .row) [] (record { sfits = told .1 .1 .0 .1 }) (w2 .put-signed2 .ensures)
-    ∙ put-read b0 b1 1 (p .column) (p .row ∷ []) (record { sfits = told .1 .0 .1 }) (w1 .put-signed .ensures)
+    ∙ put-read b1 b2 2 (p .row) [] (search needs) (w2 .put-signed2 .ensures)
+    ∙ put-read b0 b1 1 (p .column) (p .row ∷ []) (search needs) (w1 .put-signed .ensures)
     ∙ put-next (a .answer .now) b0 0 (pos (p .face)) (p .column ∷ p .row ∷ []) (w0 .put .ensures)
 
 pub put-located-spec : {M : Type 1} → statement M

@@ -2,7 +2,6 @@ use mathlib.Core.Path.{sym, _∙_}
 use mathlib.Core.List.{[], _∷_}
 use borrow.Author.Needs.{needs}
 use Rattle.cubemap.proofs.Answers.{put-none}
-use Rattle.rotation.proofs.Numbers.{RotationFits, rotation-fits}
 use Rattle.welchodrys.proofs.Written.{put-read}
 use Rattle.welchodrys.proofs.put_rotation.Statement.{statement}
 use Rattle.welchodrys.proofs.put_rotation.Tie as tie
@@ -30,16 +29,16 @@ returns c =
     let w0 = w1 .before .before .before .before .before in
     let a = w0 .before .before .before .before .args in
     let t = a .t in
-    let f : RotationFits t = rotation-fits (w0 .before .struct-told .given) in
+    let told = w0 .before .struct-told .given in
     let b0 = w0 .put-signed .last .0 in
     let b1 = w1 .put-signed2 .last .0 in
     let b2 = w2 .put-signed3 .last .0 in
     let b3 = w3 .put-signed4 .last .0 in
     sym (put-none b3 4)
-    ∙ put-read b2 b3 3 (t .e3) [] (f .f3) (w3 .put-signed4 .ensures)
-    ∙ put-read b1 b2 2 (t .e2) (t .e3 ∷ []) (f .f2) (w2 .put-signed3 .ensures)
-    ∙ put-read b0 b1 1 (t .e1) (t .e2 ∷ t .e3 ∷ []) (f .f1) (w1 .put-signed2 .ensures)
-    ∙ put-read (a .answer .now) b0 0 (t .e0) (t .e1 ∷ t .e2 ∷ t .e3 ∷ []) (f .f0) (w0 .put-signed .ensures)
+    ∙ put-read b2 b3 3 (t .e3) [] (record { sfits = told .1 .1 .1 .0 .1 }) (w3 .put-signed4 .ensures)
+    ∙ put-read b1 b2 2 (t .e2) (t .e3 ∷ []) (record { sfits = told .1 .1 .0 .1 }) (w2 .put-signed3 .ensures)
+    ∙ put-read b0 b1 1 (t .e1) (t .e2 ∷ t .e3 ∷ []) (record { sfits = told .1 .0 .1 }) (w1 .put-signed2 .ensures)
+    ∙ put-read (a .answer .now) b0 0 (t .e0) (t .e1 ∷ t .e2 ∷ t .e3 ∷ []) (record { sfits = told .0 .1 }) (w0 .put-signed .ensures)
 
 pub put-rotation-spec : {M : Type 1} → statement M
 put-rotation-spec =
