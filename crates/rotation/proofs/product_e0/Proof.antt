@@ -16,6 +16,11 @@ module _ (c : tie.After-struct-told8) where
   b : HeldRotation (start .args .b)
   b = held-rotation (start .args .b) (start .pre .1)
 
+returns : tie.Need-returns
+returns c =
+    (sub (sub (sub (mul (a c .h0) (b c .h0) tt) (mul (a c .h1) (b c .h1) tt) tt) (mul (a c .h2) (b c .h2) tt) tt) (mul (a c .h3) (b c .h3) tt) tt)
+    .is ∙ sym (product-axisless (start c .args .a) (start c .args .b))
+
 mul-result : tie.Need-mul-result
 mul-result c = mul-ok (a c .h0) (b c .h0) tt
 
@@ -42,11 +47,6 @@ sub-result-3 : tie.Need-sub-result-3
 sub-result-3 c = sub-ok
     (sub (sub (mul (a c .h0) (b c .h0) tt) (mul (a c .h1) (b c .h1) tt) tt) (mul (a c .h2) (b c .h2) tt) tt)
     (mul (a c .h3) (b c .h3) tt) tt
-
-returns : tie.Need-returns
-returns c =
-    (sub (sub (sub (mul (a c .h0) (b c .h0) tt) (mul (a c .h1) (b c .h1) tt) tt) (mul (a c .h2) (b c .h2) tt) tt) (mul (a c .h3) (b c .h3) tt) tt)
-    .is ∙ sym (product-axisless (start c .args .a) (start c .args .b))
 
 pub product-e0-spec : {M : Type 1} → statement M
 product-e0-spec =

@@ -16,6 +16,11 @@ module _ (c : tie.After-struct-told8) where
   b : HeldRotation (start .args .b)
   b = held-rotation (start .args .b) (start .pre .1)
 
+returns : tie.Need-returns
+returns c =
+    (sub (add (add (mul (a c .h0) (b c .h1) tt) (mul (a c .h1) (b c .h0) tt) tt) (mul (a c .h2) (b c .h3) tt) tt) (mul (a c .h3) (b c .h2) tt) tt)
+    .is ∙ sym (product-first (start c .args .a) (start c .args .b))
+
 mul-result : tie.Need-mul-result
 mul-result c = mul-ok (a c .h0) (b c .h1) tt
 
@@ -42,11 +47,6 @@ sub-result : tie.Need-sub-result
 sub-result c = sub-ok
     (add (add (mul (a c .h0) (b c .h1) tt) (mul (a c .h1) (b c .h0) tt) tt) (mul (a c .h2) (b c .h3) tt) tt)
     (mul (a c .h3) (b c .h2) tt) tt
-
-returns : tie.Need-returns
-returns c =
-    (sub (add (add (mul (a c .h0) (b c .h1) tt) (mul (a c .h1) (b c .h0) tt) tt) (mul (a c .h2) (b c .h3) tt) tt) (mul (a c .h3) (b c .h2) tt) tt)
-    .is ∙ sym (product-first (start c .args .a) (start c .args .b))
 
 pub product-e1-spec : {M : Type 1} → statement M
 product-e1-spec =

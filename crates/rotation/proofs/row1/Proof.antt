@@ -7,6 +7,12 @@ use Rattle.rotation.proofs.row1.Tie as tie
 t : (c : tie.After-struct-told4) → HeldRotation (c .before .before .before .before .args .t)
 t c = held-rotation (c .before .before .before .before .args .t) (c .before .before .before .before .pre)
 
+returns : tie.Need-returns
+returns c = ray-of-held
+    (sub (sub (add (mul (t c .h0) (t c .h0) tt) (mul (t c .h1) (t c .h1) tt) tt) (mul (t c .h2) (t c .h2) tt) tt) (mul (t c .h3) (t c .h3) tt) tt)
+    (mul (held-literal 2 tt) (sub (mul (t c .h1) (t c .h2) tt) (mul (t c .h0) (t c .h3) tt) tt) tt)
+    (mul (held-literal 2 tt) (add (mul (t c .h1) (t c .h3) tt) (mul (t c .h0) (t c .h2) tt) tt) tt)
+
 mul-t6 : tie.Need-mul-t6
 mul-t6 c = mul-ok (t c .h0) (t c .h0) tt
 
@@ -53,12 +59,6 @@ add-t19 c = add-ok (mul (t c .h1) (t c .h3) tt) (mul (t c .h0) (t c .h2) tt) tt
 
 mul-t20 : tie.Need-mul-t20
 mul-t20 c = mul-ok (held-literal 2 tt) (add (mul (t c .h1) (t c .h3) tt) (mul (t c .h0) (t c .h2) tt) tt) tt
-
-returns : tie.Need-returns
-returns c = ray-of-held
-    (sub (sub (add (mul (t c .h0) (t c .h0) tt) (mul (t c .h1) (t c .h1) tt) tt) (mul (t c .h2) (t c .h2) tt) tt) (mul (t c .h3) (t c .h3) tt) tt)
-    (mul (held-literal 2 tt) (sub (mul (t c .h1) (t c .h2) tt) (mul (t c .h0) (t c .h3) tt) tt) tt)
-    (mul (held-literal 2 tt) (add (mul (t c .h1) (t c .h3) tt) (mul (t c .h0) (t c .h2) tt) tt) tt)
 
 pub row1-spec : {M : Type 1} → statement M
 row1-spec =
