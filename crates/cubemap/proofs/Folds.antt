@@ -9,7 +9,7 @@ use Rattle.cubemap.specs.Interface.{Answer, accepted}
 use Rattle.cubemap.specs.Rotations.{compose, sameRotation}
 use Rattle.cubemap.specs.Checks.{Check, check, firstFailed, rotationInRange, rotationNonzero, equalChecks, foldChecks}
 use Rattle.cubemap.specs.Outcomes.{result, ifAccepted, refused, foldValues, equalValues, foldResult, equalResult}
-use Rattle.cubemap.proofs.Passed.{failing, holding, no-index}
+use Rattle.cubemap.proofs.Passed.{failing, holding}
 
 module _ (a b : Rotation) where
   -- questions 6 and 7, of both turns, and 12, of the folded one
@@ -43,11 +43,6 @@ module _ (a b : Rotation) where
   pub equal-accepted : T bothInRange → T bothNonzero → equalResult a b ≡ result accepted (equalValues (sameRotation a b))
   equal-accepted r n = equal-answered accepted (holding (question6 ∷ question7 ∷ []) (r, (n, tt)))
 
-  -- no refusal brings an index
-  pub equal-index : equalResult a b .answered .index ≡ 0
-  unfolding equalResult equalChecks
-  equal-index = no-index (equalChecks a b) tt
-
   -- ---- fold
 
   fold-answered : (x : Answer) → firstFailed (question6 ∷ question7 ∷ question12 ∷ []) ≡ x → foldResult a b ≡ ifAccepted x (foldValues (compose a b))
@@ -66,7 +61,3 @@ module _ (a b : Rotation) where
   pub fold-accepted : T bothInRange → T bothNonzero → T (rotationInRange (compose a b))
       → foldResult a b ≡ result accepted (foldValues (compose a b))
   fold-accepted r n f = fold-answered accepted (holding (question6 ∷ question7 ∷ question12 ∷ []) (r, (n, (f, tt))))
-
-  pub fold-index : foldResult a b .answered .index ≡ 0
-  unfolding foldResult foldChecks equalChecks
-  fold-index = no-index (foldChecks a b) tt

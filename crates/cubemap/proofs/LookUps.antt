@@ -10,7 +10,7 @@ use Rattle.cubemap.specs.Interface.{formatOf, Answer, accepted}
 use Rattle.cubemap.specs.RayToPlace.{locate}
 use Rattle.cubemap.specs.Checks.{check, firstFailed, sizeOK, codeOK, rayInRange, rayNonzero, lookUpChecks}
 use Rattle.cubemap.specs.Outcomes.{result, ifAccepted, lookUpValues, refused, lookUpResult}
-use Rattle.cubemap.proofs.Passed.{failing, no-index, LookUpPassed, look-up-checks, look-up-accepted}
+use Rattle.cubemap.proofs.Passed.{failing, LookUpPassed, look-up-checks, look-up-accepted}
 
 module _ (A format : ℕ) (v : Ray) where
   answered : (a : Answer) → firstFailed (lookUpChecks A format v) ≡ a
@@ -35,8 +35,3 @@ module _ (A format : ℕ) (v : Ray) where
 
   pub look-up-at : LookUpPassed A format v → lookUpResult A format v ≡ result accepted (lookUpValues (locate (formatOf format) A v))
   look-up-at p = answered accepted (look-up-accepted A format v p)
-
-  -- no refusal brings an index
-  pub look-up-index : lookUpResult A format v .answered .index ≡ 0
-  unfolding lookUpResult lookUpChecks
-  look-up-index = no-index (lookUpChecks A format v) tt

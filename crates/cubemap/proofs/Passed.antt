@@ -3,7 +3,7 @@ use mathlib.Core.Path.{_≡_, refl, _∙_, ap}
 use mathlib.Core.Bool.{Bool, true, false, _&&_, not, cond}
 use mathlib.Core.List.{List, [], _∷_, _++_}
 use Prim.Native.Nat.{ℕ, _≤_, _<_}
-use lib.Dec.{T, eqb, eqb→eq, leb, leb→le, le→leb, T-not}
+use lib.Dec.{T, eqb, leb, leb→le, le→leb, T-not}
 use lib.ListN.{length}
 use borrow.Author.Tests.{lt-leb}
 use Rattle.arithmetic.proofs.Tests.{and-left, and-right, and-both, and-false, All3, and3, cond-true}
@@ -44,20 +44,6 @@ holding (c ∷ cs) h = go (c .holds) (h .0) (holding cs (h .1))
     go : (b : Bool) → T b → firstFailed cs ≡ accepted → cond b (firstFailed cs) (answer (c .number) (c .index)) ≡ accepted
     go true t ih = ih
     go false t ih = absurd t
-
--- where no check brings an index, the answer has none
-abbrev pub unindexed : List Check → Bool
-unindexed [] = true
-unindexed (c ∷ cs) = eqb (c .index) 0 && unindexed cs
-
-pub no-index : (cs : List Check) → T (unindexed cs) → firstFailed cs .index ≡ 0
-unfolding firstFailed
-no-index [] t = refl
-no-index (c ∷ cs) t = go (c .holds) (no-index cs (and-right (eqb (c .index) 0) (unindexed cs) t))
-  where
-    go : (b : Bool) → firstFailed cs .index ≡ 0 → cond b (firstFailed cs) (answer (c .number) (c .index)) .index ≡ 0
-    go true ih = ih
-    go false ih = eqb→eq (c .index) 0 (and-left (eqb (c .index) 0) (unindexed cs) t)
 
 -- the first that fails, where those in front of it hold
 pub failing : (front : List Check) (c : Check) (rest : List Check) → AllHold front → c .holds ≡ false

@@ -48,7 +48,7 @@ pub struct Located {
     pub row: i64,
 }
 
-// A refusal (the paper's "no"): a case for each question, 1 to 16. Questions 10 and 11 bring the lowest offending index.
+// A refusal (the paper's "no"): a case for each question, 1 to 16. Questions 10 and 11 bring the lowest offending index, which is below 6·512².
 pub enum Refusal {
     FaceSize,
     TargetSize,
@@ -59,8 +59,8 @@ pub enum Refusal {
     RotationZero,
     FirstLength,
     SecondLength,
-    FirstSample(u64),
-    SecondSample(u64),
+    FirstSample(u32),
+    SecondSample(u32),
     FoldedRange,
     RayRange,
     RayZero,

@@ -103,7 +103,6 @@ fn put_located(answer: &mut [u8], p: Located)
 // ---- the code of a refused call: its number plus 256 times the index
 
 fn refusal_code(refused: Refusal) -> u64
-    requires { ⌜ (refusal refused) .index < 2 ^ 32 ⌝ }
     ensures { λ r. ⌜ r ≡ returnCode (refusal refused) ⌝ }
 {
     match refused {
@@ -116,8 +115,8 @@ fn refusal_code(refused: Refusal) -> u64
         Refusal::RotationZero => 7,
         Refusal::FirstLength => 8,
         Refusal::SecondLength => 9,
-        Refusal::FirstSample(i) => 10 + 256 * i,
-        Refusal::SecondSample(i) => 11 + 256 * i,
+        Refusal::FirstSample(i) => 10 + 256 * (i as u64),
+        Refusal::SecondSample(i) => 11 + 256 * (i as u64),
         Refusal::FoldedRange => 12,
         Refusal::RayRange => 13,
         Refusal::RayZero => 14,

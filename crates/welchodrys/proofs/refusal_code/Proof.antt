@@ -1,6 +1,4 @@
-use mathlib.Core.Path.{_≡_, sym, ap, subst}
-use Prim.Native.Nat.{_^_, _<_}
-use native.Mathlib.Omega.{arith}
+use mathlib.Core.Path.{_≡_, sym, ap}
 use Rattle.cubemap.specs.declared.Refusal.{Refusal}
 use Rattle.cubemap.specs.Interface.{returnCode}
 use Rattle.cubemap.specs.Outcomes.{refusal}
@@ -11,9 +9,6 @@ use Rattle.welchodrys.proofs.refusal_code.Tie as tie
 -- the case that a match found
 code-of : {r s : Refusal} → r ≡ s → returnCode (refusal s) ≡ returnCode (refusal r)
 code-of e = ap (λ r. returnCode (refusal r)) (sym e)
-
-index-below : {r s : Refusal} → r ≡ s → refusal r .index < 2 ^ 32 → refusal s .index < 2 ^ 32
-index-below e h = subst (λ r. refusal r .index < 2 ^ 32) e h
 
 enum-told : tie.Need-enum-told
 enum-told c = search needs
@@ -45,20 +40,26 @@ enum-told-9 c = search needs
 enum-known-refused : tie.Need-enum-known-refused
 enum-known-refused c = search needs
 
+cast-result : tie.Need-cast-result
+cast-result c = search needs
+
 mul-result : tie.Need-mul-result
-mul-result c = let h = index-below (c .before .refused .given .1) (c .before .before .before .pre) in omega arith
+mul-result c = search needs
 
 add-result : tie.Need-add-result
-add-result c = let h = index-below (c .before .refused .given .1) (c .before .before .before .pre) in omega arith
+add-result c = search needs
 
 enum-known-refused-2 : tie.Need-enum-known-refused-2
 enum-known-refused-2 c = search needs
 
+cast-result-2 : tie.Need-cast-result-2
+cast-result-2 c = search needs
+
 mul-result-2 : tie.Need-mul-result-2
-mul-result-2 c = let h = index-below (c .before .refused2 .given .1) (c .before .before .before .pre) in omega arith
+mul-result-2 c = search needs
 
 add-result-2 : tie.Need-add-result-2
-add-result-2 c = let h = index-below (c .before .refused2 .given .1) (c .before .before .before .pre) in omega arith
+add-result-2 c = search needs
 
 enum-told-10 : tie.Need-enum-told-10
 enum-told-10 c = search needs
@@ -137,9 +138,11 @@ refusal-code-spec =
     enum-told-8
     enum-told-9
     enum-known-refused
+    cast-result
     mul-result
     add-result
     enum-known-refused-2
+    cast-result-2
     mul-result-2
     add-result-2
     enum-told-10

@@ -1,12 +1,10 @@
 use mathlib.Core.Path.{_≡_, refl, sym, _∙_, ap, ap₂}
-use native.Mathlib.Omega.{arith}
 use borrow.Author.Needs.{needs}
 use mir.Facts.{toZ-ofZ}
 use Rattle.cubemap.specs.declared.Rotation.{Rotation}
-use Rattle.cubemap.specs.Outcomes.{Result, foldedMeans, foldValues, foldResult, refused}
+use Rattle.cubemap.specs.Outcomes.{Result, foldedMeans, foldValues, foldResult}
 use Rattle.cubemap.specs.Rotations.{rotation}
 use Rattle.cubemap.proofs.Answers.{gives-accepted, gives-refused}
-use Rattle.cubemap.proofs.Folds.{fold-index}
 use Rattle.cubemap.proofs.Rotations.{rotation-eq}
 use Rattle.welchodrys.proofs.welchodrys_fold.Statement.{statement}
 use Rattle.welchodrys.proofs.welchodrys_fold.Tie as tie
@@ -43,18 +41,8 @@ module _ (c : tie.After-fold) where
       (rotation-eq (toZ-ofZ (s .fits .first0)) (toZ-ofZ (s .fits .first1)) (toZ-ofZ (s .fits .first2)) (toZ-ofZ (s .fits .first3)))
       (rotation-eq (toZ-ofZ (s .fits .later0)) (toZ-ofZ (s .fits .later1)) (toZ-ofZ (s .fits .later2)) (toZ-ofZ (s .fits .later3)))
 
-module _ (c : tie.After-folded2) where
-  abbrev f : tie.After-fold
-  f = c .before .before
-
-  refused-is : refused (c .folded2 .given .0 .0) ≡ found f
-  refused-is = ap foldedMeans (sym (c .folded2 .given .1)) ∙ found-is f
-
 refusal-code-requires : tie.Need-refusal-code-requires
-refusal-code-requires c κs =
-    let r = c .before in
-    let e = ap (λ (r : Result). r .answered .index) (refused-is r) ∙ fold-index (first (f r)) (later (f r)) in
-    omega arith
+refusal-code-requires c κs = search needs
 
 same-length : tie.Need-same-length
 same-length c = search needs
@@ -70,8 +58,9 @@ returns c =
 returns-2 : tie.Need-returns-2
 returns-2 c =
     let r = c .before .before in
-    gives-refused (found (f r)) (s (f r) .args .answer .now) (s (f r) .args .answer .now)
-    (r .folded2 .given .0 .0) (c .refusal-code .result) (refused-is r) (c .refusal-code .ensures) refl
+    let f = r .before .before in
+    gives-refused (found f) (s f .args .answer .now) (s f .args .answer .now) (r .folded2 .given .0 .0) (c .refusal-code .result)
+    (ap foldedMeans (sym (r .folded2 .given .1)) ∙ found-is f) (c .refusal-code .ensures) refl
 
 pub welchodrys-fold-spec : {M : Type 1} → statement M
 welchodrys-fold-spec =

@@ -1,12 +1,10 @@
 use mathlib.Core.Path.{_≡_, refl, sym, _∙_, ap}
-use native.Mathlib.Omega.{arith}
 use borrow.Author.Needs.{needs}
 use mir.Facts.{toZ-ofZ}
 use Rattle.cubemap.specs.declared.Ray.{Ray}
-use Rattle.cubemap.specs.Outcomes.{Result, lookedUpMeans, lookUpValues, lookUpResult, refused}
+use Rattle.cubemap.specs.Outcomes.{Result, lookedUpMeans, lookUpValues, lookUpResult}
 use Rattle.cubemap.specs.PlaceToRay.{ray}
 use Rattle.cubemap.proofs.Answers.{gives-accepted, gives-refused}
-use Rattle.cubemap.proofs.LookUps.{look-up-index}
 use Rattle.cubemap.proofs.Rotations.{ray-eq}
 use Rattle.welchodrys.proofs.welchodrys_look_up.Statement.{statement}
 use Rattle.welchodrys.proofs.welchodrys_look_up.Tie as tie
@@ -38,19 +36,8 @@ module _ (c : tie.After-look-up) where
       c .look-up .ensures
       ∙ ap (lookUpResult (s .args .size) (s .args .format)) (ray-eq (toZ-ofZ (s .fits .x)) (toZ-ofZ (s .fits .y)) (toZ-ofZ (s .fits .z)))
 
-module _ (c : tie.After-looked-up2) where
-  abbrev l : tie.After-look-up
-  l = c .before .before
-
-  refused-is : refused (c .looked-up2 .given .0 .0) ≡ found l
-  refused-is = ap lookedUpMeans (sym (c .looked-up2 .given .1)) ∙ found-is l
-
 refusal-code-requires : tie.Need-refusal-code-requires
-refusal-code-requires c κs =
-    let r = c .before in
-    let a = s (l r) .args in
-    let e = ap (λ (r : Result). r .answered .index) (refused-is r) ∙ look-up-index (a .size) (a .format) (v (l r)) in
-    omega arith
+refusal-code-requires c κs = search needs
 
 same-length : tie.Need-same-length
 same-length c = search needs
@@ -59,15 +46,16 @@ returns : tie.Need-returns
 returns c =
     let p = c .before .before in
     let t = p .before .before .before in
-    let l = t .before .before in
-    gives-accepted (found l) (s l .args .answer .now) (p .put-located .last .0) (lookUpValues (t .looked-up .given .0 .0))
-    (ap lookedUpMeans (sym (t .looked-up .given .1)) ∙ found-is l) (p .put-located .ensures)
+    let f = t .before .before in
+    gives-accepted (found f) (s f .args .answer .now) (p .put-located .last .0) (lookUpValues (t .looked-up .given .0 .0))
+    (ap lookedUpMeans (sym (t .looked-up .given .1)) ∙ found-is f) (p .put-located .ensures)
 
 returns-2 : tie.Need-returns-2
 returns-2 c =
     let r = c .before .before in
-    gives-refused (found (l r)) (s (l r) .args .answer .now) (s (l r) .args .answer .now)
-    (r .looked-up2 .given .0 .0) (c .refusal-code .result) (refused-is r) (c .refusal-code .ensures) refl
+    let f = r .before .before in
+    gives-refused (found f) (s f .args .answer .now) (s f .args .answer .now) (r .looked-up2 .given .0 .0) (c .refusal-code .result)
+    (ap lookedUpMeans (sym (r .looked-up2 .given .1)) ∙ found-is f) (c .refusal-code .ensures) refl
 
 pub welchodrys-look-up-spec : {M : Type 1} → statement M
 welchodrys-look-up-spec =
