@@ -42,6 +42,10 @@ held-nat {n} {B} h t = record { is = mir.Facts.toZ-pos w64 (lt-of-le-of-lt h (lt
 pub held-literal : (n : ℕ) → T (ltb n (2 ^ 63)) → Held n (pos n) n
 held-literal n t = held-nat (le-refl n) t
 
+-- what holds of the number that the bits of x read as holds of x
+pub read-back : {X : Type 0} (f : ℤ → X) {r : X} (x : ℤ) → SFits w64 x → r ≡ f (toZ w64 (ofZ w64 x)) → r ≡ f x
+read-back f x s e = e ∙ ap f (toZ-ofZ s)
+
 -- ---- the operations
 
 module _ {n m : ℕ} {x y : ℤ} {A B : ℕ} (p : Held n x A) (q : Held m y B) where

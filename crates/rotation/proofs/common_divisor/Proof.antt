@@ -1,12 +1,12 @@
 -- The divisor of the first two numbers, of the last two, and of these two.
-use mathlib.Core.Path.{_≡_, sym, _∙_, ap, subst₂}
+use mathlib.Core.Path.{_≡_, sym, subst₂}
 use native.Mathlib.Omega.{arith}
 use Prim.Native.Nat.{ℕ, _<_}
 use lib.IntN.{ℤ, natAbs}
 use borrow.Author.Needs.{needs}
 use mir.Syntax.{w64}
 use mir.Val.{SFits, toZ, ofZ}
-use mir.Facts.{toZ-ofZ}
+use Rattle.arithmetic.proofs.Held.{read-back}
 use Rattle.arithmetic.proofs.Divisors.{IsGcd}
 use Rattle.cubemap.specs.declared.Rotation.{Rotation}
 use Rattle.cubemap.proofs.Reduction.{divisor-by-pairs, divisor-of-zeros}
@@ -37,7 +37,7 @@ gcd-requires-3 c κs = search needs
 -- a divisor of two numbers' sizes, as the machine read the numbers
 of-sizes : {m n g : ℕ} (x y : ℤ) → SFits w64 x → SFits w64 y → m ≡ natAbs (toZ w64 (ofZ w64 x)) → n ≡ natAbs (toZ w64 (ofZ w64 y)) → IsGcd m n g
     → IsGcd (natAbs x) (natAbs y) g
-of-sizes {m} {n} {g} x y p q e f h = subst₂ (λ j k. IsGcd j k g) (e ∙ ap natAbs (toZ-ofZ p)) (f ∙ ap natAbs (toZ-ofZ q)) h
+of-sizes {m} {n} {g} x y p q e f h = subst₂ (λ j k. IsGcd j k g) (read-back natAbs x p e) (read-back natAbs y q f) h
 
 module _ (c : tie.After-gcd3) where
   abbrev front : tie.After-gcd
