@@ -6,7 +6,7 @@ use mathlib.Core.Bool.{Bool, true, false}
 use Prim.Native.Nat.{ℕ, zero, suc, _+_, _*_, _^_, _≤_, _<_}
 use native.Mathlib.Nat.{le-trans, le-refl, mul-le-mul, add-le-add, lt-of-le-of-lt, div-le-self}
 use native.Mathlib.Omega.{arith}
-use lib.Dec.{T, ltb, ltb→lt, eqb, eqb→eq, eqb-refl}
+use lib.Dec.{T, leb, ltb, ltb→lt, eqb, eqb→eq, eqb-refl}
 use borrow.Author.Tests.{lt-ltb, le-ltb, ne-eqb}
 use lib.IntN.{ℤ, pos, negsuc, negℤ, natAbs, _+ℤ_, _-ℤ_, _*ℤ_, +ℤ-idl, negℤ-+ℤ, -ℤ-+ℤ-cancel}
 use lib.Signed.{mag, ltZ, nonNeg, shrZ}
@@ -45,6 +45,9 @@ held-literal n t = held-nat (le-refl n) t
 -- what holds of the number that the bits of x read as holds of x
 pub read-back : {X : Type 0} (f : ℤ → X) {r : X} (x : ℤ) → SFits w64 x → r ≡ f (toZ w64 (ofZ w64 x)) → r ≡ f x
 read-back f x s e = e ∙ ap f (toZ-ofZ s)
+
+pub read-within : (B : ℕ) {r : Bool} (x : ℤ) → SFits w64 x → r ≡ leb (natAbs (toZ w64 (ofZ w64 x))) B → r ≡ leb (natAbs x) B
+read-within B = read-back (λ x. leb (natAbs x) B)
 
 -- ---- the operations
 

@@ -25,10 +25,6 @@ pub complement-above : (v : ℤ) → ltZ v (pos 0) ≡ false → twosComplement 
 complement-above (pos n) e = refl
 complement-above (negsuc n) e = absurd (fails e tt)
 
-pub below-positive : (v : ℤ) → ltZ v (pos 0) ≡ true → 0 < natAbs v
-below-positive (pos n) e = absurd (omega (arith, ltb→lt n 0 (passes e)))
-below-positive (negsuc n) e = omega arith
-
 -- ---- one number in a buffer: where it fits whole, and where it does not
 
 pub put-whole : (buffer : List ℕ) (k : ℕ) (v : ℤ) → 8 * k + 8 ≤ length buffer

@@ -11,6 +11,7 @@ pub mod Framed
 pub mod Curves
 pub mod FaceCoordinates
 pub mod Rotations
+pub mod HeldNumbers
 pub mod Reduction
 pub mod Folds
 pub mod Rounding

@@ -1,11 +1,7 @@
-use mathlib.Core.Path.{_≡_, sym, _∙_}
-use mathlib.Core.Bool.{Bool, _&&_}
-use lib.Dec.{leb}
-use lib.IntN.{ℤ, natAbs}
-use mir.Syntax.{w64}
-use mir.Val.{SFits, toZ, ofZ}
+use mathlib.Core.Path.{sym, _∙_}
+use mathlib.Core.Bool.{_&&_}
 use borrow.Author.Needs.{needs}
-use Rattle.arithmetic.proofs.Held.{read-back}
+use Rattle.arithmetic.proofs.Held.{read-within}
 use Rattle.cubemap.proofs.Ranges.{ray-range-tests}
 use Rattle.geometry.proofs.in_range.Statement.{statement}
 use Rattle.geometry.proofs.in_range.Tie as tie
@@ -19,16 +15,13 @@ within-requires-2 c κs = search needs
 within-requires-3 : tie.Need-within-requires-3
 within-requires-3 c κs = search needs
 
-near : {r : Bool} (x : ℤ) → SFits w64 x → r ≡ leb (natAbs (toZ w64 (ofZ w64 x))) 536870911 → r ≡ leb (natAbs x) 536870911
-near = read-back (λ x. leb (natAbs x) 536870911)
-
 returns : tie.Need-returns
 returns c =
     let w2 = c .before .before in
     let w1 = w2 .before .before in
     let v = w1 .before .before .args .v in
-    (λ i. near (v .x) (search needs) (w1 .within .ensures) i && near (v .y) (search needs) (w2 .within2 .ensures) i
-    && near (v .z) (search needs) (c .within3 .ensures) i)
+    (λ i. read-within 536870911 (v .x) (search needs) (w1 .within .ensures) i && read-within 536870911 (v .y) (search needs) (w2 .within2 .ensures) i
+    && read-within 536870911 (v .z) (search needs) (c .within3 .ensures) i)
     ∙ sym (ray-range-tests v)
 
 pub in-range-spec : {M : Type 1} → statement M

@@ -10,9 +10,10 @@ use mir.Syntax.{w64}
 use mir.Val.{toZ, ofZ}
 use borrow.Author.Tests.{leb-true, leb-false}
 use borrow.Author.Needs.{needs}
-use Rattle.arithmetic.proofs.Held.{Held, held, opposite-ok, opposite, tests-positive}
+use Rattle.arithmetic.proofs.Held.{Held, opposite-ok, opposite, tests-positive}
 use Rattle.cubemap.specs.declared.Ray.{Ray}
-use Rattle.cubemap.proofs.Ranges.{RayWithin, ray-range}
+use Rattle.cubemap.proofs.Ranges.{ray-range}
+use Rattle.cubemap.proofs.HeldNumbers.{HeldRay, held-ray}
 use Rattle.cubemap.proofs.Faces.{Table4, table4-x, table4-y, table4-z}
 use Rattle.geometry.proofs.table4.Statement.{statement}
 use Rattle.geometry.proofs.table4.Tie as tie
@@ -33,26 +34,17 @@ module _ (c : tie.After-magnitude3) where
   abbrev v : Ray
   v = start .args .v
 
-  within : RayWithin 536870911 v
-  within = ray-range v (start .pre .0)
-
-  held-x : Held (ofZ w64 (v .x)) (v .x) 536870911
-  held-x = held (v .x) (within .x) tt
-
-  held-y : Held (ofZ w64 (v .y)) (v .y) 536870911
-  held-y = held (v .y) (within .y) tt
-
-  held-z : Held (ofZ w64 (v .z)) (v .z) 536870911
-  held-z = held (v .z) (within .z) tt
+  holds : HeldRay 536870911 v
+  holds = held-ray v (ray-range v (start .pre .0)) tt
 
   size-x : c .before .before .magnitude .result ≡ natAbs (v .x)
-  size-x = c .before .before .magnitude .ensures ∙ ap natAbs (held-x .is)
+  size-x = c .before .before .magnitude .ensures ∙ ap natAbs (holds .x .is)
 
   size-y : c .before .magnitude2 .result ≡ natAbs (v .y)
-  size-y = c .before .magnitude2 .ensures ∙ ap natAbs (held-y .is)
+  size-y = c .before .magnitude2 .ensures ∙ ap natAbs (holds .y .is)
 
   size-z : c .magnitude3 .result ≡ natAbs (v .z)
-  size-z = c .magnitude3 .ensures ∙ ap natAbs (held-z .is)
+  size-z = c .magnitude3 .ensures ∙ ap natAbs (holds .z .is)
 
   -- a row of the table, of numbers that the machine holds
   gives : {n m f d e : ℕ} {a b : ℤ} → Held n a 536870911 → Held m b 536870911 → d ≡ e → Table4 v f a b e → Table4 v f (toZ w64 n) (toZ w64 m) d
@@ -75,71 +67,71 @@ row-x : (c : tie.Then2) (b : Bool) → let v : Ray = v (c .before .before) in lt
 row-x c b e =
     let t : tie.After-magnitude3 = c .before .before in
     table4-x (v t) (start t .pre .1) (omega (arith, size-x t, size-y t)) (omega (arith, size-x t, size-z t, leb-true)) b
-    (tests-positive (held-x t .is) e)
+    (tests-positive (holds t .x .is) e)
 
 row-y : (c : tie.Then5) (b : Bool) → let v : Ray = v (c .before .before .before) in ltZ (pos 0) (toZ w64 (ofZ w64 (v .y))) ≡ b
     → Table4 v (cond b 2 3) (v .x) (cond b (v .z) (negℤ (v .z))) (natAbs (v .y))
 row-y c b e =
     let t : tie.After-magnitude3 = c .before .before .before in
     table4-y (v t) (start t .pre .1) (not-x (c .before .before)) (omega (arith, size-x t, size-y t)) (omega (arith, size-y t, size-z t, leb-true)) b
-    (tests-positive (held-y t .is) e)
+    (tests-positive (holds t .y .is) e)
 
 row-z : (c : tie.Joined4) (b : Bool) → let v : Ray = v (c .before .before) in ltZ (pos 0) (toZ w64 (ofZ w64 (v .z))) ≡ b
     → Table4 v (cond b 4 5) (cond b (v .x) (negℤ (v .x))) (negℤ (v .y)) (natAbs (v .z))
 row-z c b e =
     let t : tie.After-magnitude3 = c .before .before in
-    table4-z (v t) (start t .pre .1) (not-x (c .before)) (not-y c) b (tests-positive (held-z t .is) e)
+    table4-z (v t) (start t .pre .1) (not-x (c .before)) (not-y c) b (tests-positive (holds t .z .is) e)
 
 returns : tie.Need-returns
 returns c =
     let t : tie.After-magnitude3 = c .before .before .before in
-    gives t (opposite (held-z t) tt) (opposite (held-y t) tt) (size-x t) (row-x (c .before) true (c .if3 .taken))
+    gives t (opposite (holds t .z) tt) (opposite (holds t .y) tt) (size-x t) (row-x (c .before) true (c .if3 .taken))
 
 returns-2 : tie.Need-returns-2
 returns-2 c =
     let t : tie.After-magnitude3 = c .before .before .before in
-    gives t (held-z t) (opposite (held-y t) tt) (size-x t) (row-x (c .before) false (c .if3 .left))
+    gives t (holds t .z) (opposite (holds t .y) tt) (size-x t) (row-x (c .before) false (c .if3 .left))
 
 returns-3 : tie.Need-returns-3
 returns-3 c =
     let t : tie.After-magnitude3 = c .before .before .before .before in
-    gives t (held-x t) (held-z t) (size-y t) (row-y (c .before) true (c .if6 .taken))
+    gives t (holds t .x) (holds t .z) (size-y t) (row-y (c .before) true (c .if6 .taken))
 
 returns-4 : tie.Need-returns-4
 returns-4 c =
     let t : tie.After-magnitude3 = c .before .before .before .before in
-    gives t (held-x t) (opposite (held-z t) tt) (size-y t) (row-y (c .before) false (c .if6 .left))
+    gives t (holds t .x) (opposite (holds t .z) tt) (size-y t) (row-y (c .before) false (c .if6 .left))
 
 returns-5 : tie.Need-returns-5
 returns-5 c =
     let t : tie.After-magnitude3 = c .before .before .before in
-    gives t (held-x t) (opposite (held-y t) tt) (size-z t) (row-z (c .before) true (c .if7 .taken))
+    gives t (holds t .x) (opposite (holds t .y) tt) (size-z t) (row-z (c .before) true (c .if7 .taken))
 
 returns-6 : tie.Need-returns-6
 returns-6 c =
     let t : tie.After-magnitude3 = c .before .before .before in
-    gives t (opposite (held-x t) tt) (opposite (held-y t) tt) (size-z t) (row-z (c .before) false (c .if7 .left))
+    gives t (opposite (holds t .x) tt) (opposite (holds t .y) tt) (size-z t) (row-z (c .before) false (c .if7 .left))
 
 sub-t11 : tie.Need-sub-t11
-sub-t11 c = opposite-ok (held-z (c .before .before .before)) tt
+sub-t11 c = opposite-ok (holds (c .before .before .before) .z) tt
 
 sub-t12 : tie.Need-sub-t12
-sub-t12 c = opposite-ok (held-y (c .before .before .before)) tt
+sub-t12 c = opposite-ok (holds (c .before .before .before) .y) tt
 
 sub-t13 : tie.Need-sub-t13
-sub-t13 c = opposite-ok (held-y (c .before .before .before)) tt
+sub-t13 c = opposite-ok (holds (c .before .before .before) .y) tt
 
 sub-t17 : tie.Need-sub-t17
-sub-t17 c = opposite-ok (held-z (c .before .before .before .before)) tt
+sub-t17 c = opposite-ok (holds (c .before .before .before .before) .z) tt
 
 sub-t19 : tie.Need-sub-t19
-sub-t19 c = opposite-ok (held-y (c .before .before .before)) tt
+sub-t19 c = opposite-ok (holds (c .before .before .before) .y) tt
 
 sub-t20 : tie.Need-sub-t20
-sub-t20 c = opposite-ok (held-x (c .before .before .before)) tt
+sub-t20 c = opposite-ok (holds (c .before .before .before) .x) tt
 
 sub-t21 : tie.Need-sub-t21
-sub-t21 c = opposite-ok (held-y (c .before .before .before)) tt
+sub-t21 c = opposite-ok (holds (c .before .before .before) .y) tt
 
 pub table4-spec : {M : Type 1} → statement M
 table4-spec =

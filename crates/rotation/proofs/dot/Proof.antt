@@ -1,6 +1,6 @@
 use Rattle.arithmetic.proofs.Held.{mul, add, mul-ok, add-ok}
 use Rattle.cubemap.proofs.Ranges.{ray-range}
-use Rattle.rotation.proofs.Numbers.{HeldRay, held-ray}
+use Rattle.cubemap.proofs.HeldNumbers.{HeldRay, held-ray}
 use Rattle.rotation.proofs.dot.Statement.{statement}
 use Rattle.rotation.proofs.dot.Tie as tie
 

@@ -1,11 +1,7 @@
-use mathlib.Core.Path.{_≡_, sym, _∙_}
-use mathlib.Core.Bool.{Bool, _&&_}
-use lib.Dec.{leb}
-use lib.IntN.{ℤ, natAbs}
+use mathlib.Core.Path.{sym, _∙_}
+use mathlib.Core.Bool.{_&&_}
 use borrow.Author.Needs.{needs}
-use mir.Syntax.{w64}
-use mir.Val.{SFits, toZ, ofZ}
-use Rattle.arithmetic.proofs.Held.{read-back}
+use Rattle.arithmetic.proofs.Held.{read-within}
 use Rattle.cubemap.proofs.Ranges.{rotation-range-tests}
 use Rattle.rotation.proofs.in_range.Statement.{statement}
 use Rattle.rotation.proofs.in_range.Tie as tie
@@ -22,17 +18,14 @@ within-requires-3 c κs = search needs
 within-requires-4 : tie.Need-within-requires-4
 within-requires-4 c κs = search needs
 
-near : {r : Bool} (x : ℤ) → SFits w64 x → r ≡ leb (natAbs (toZ w64 (ofZ w64 x))) 31 → r ≡ leb (natAbs x) 31
-near = read-back (λ x. leb (natAbs x) 31)
-
 returns : tie.Need-returns
 returns c =
     let w3 = c .before .before in
     let w2 = w3 .before .before in
     let w1 = w2 .before .before in
     let t = w1 .before .before .args .t in
-    (λ i. near (t .e0) (search needs) (w1 .within .ensures) i && near (t .e1) (search needs) (w2 .within2 .ensures) i
-    && near (t .e2) (search needs) (w3 .within3 .ensures) i && near (t .e3) (search needs) (c .within4 .ensures) i)
+    (λ i. read-within 31 (t .e0) (search needs) (w1 .within .ensures) i && read-within 31 (t .e1) (search needs) (w2 .within2 .ensures) i
+    && read-within 31 (t .e2) (search needs) (w3 .within3 .ensures) i && read-within 31 (t .e3) (search needs) (c .within4 .ensures) i)
     ∙ sym (rotation-range-tests t)
 
 pub in-range-spec : {M : Type 1} → statement M

@@ -2,7 +2,7 @@
 use mathlib.Core.Path.{sym, _∙_}
 use Rattle.arithmetic.proofs.Held.{mul, sub, mul-ok, sub-ok}
 use Rattle.cubemap.proofs.Rotations.{product-axisless}
-use Rattle.rotation.proofs.Numbers.{HeldRotation, held-rotation}
+use Rattle.cubemap.proofs.HeldNumbers.{HeldRotation, held-rotation}
 use Rattle.rotation.proofs.product_e0.Statement.{statement}
 use Rattle.rotation.proofs.product_e0.Tie as tie
 

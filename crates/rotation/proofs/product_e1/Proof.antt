@@ -2,7 +2,7 @@
 use mathlib.Core.Path.{sym, _∙_}
 use Rattle.arithmetic.proofs.Held.{mul, add, sub, mul-ok, add-ok, sub-ok}
 use Rattle.cubemap.proofs.Rotations.{product-first}
-use Rattle.rotation.proofs.Numbers.{HeldRotation, held-rotation}
+use Rattle.cubemap.proofs.HeldNumbers.{HeldRotation, held-rotation}
 use Rattle.rotation.proofs.product_e1.Statement.{statement}
 use Rattle.rotation.proofs.product_e1.Tie as tie
 

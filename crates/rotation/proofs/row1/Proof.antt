@@ -1,6 +1,6 @@
 -- Products of numbers of size at most 31 have sizes of at most 961, and an entry adds up four of them.
 use Rattle.arithmetic.proofs.Held.{held-literal, mul, add, sub, mul-ok, add-ok, sub-ok}
-use Rattle.rotation.proofs.Numbers.{HeldRotation, held-rotation, ray-of-held}
+use Rattle.cubemap.proofs.HeldNumbers.{HeldRotation, held-rotation, ray-of-held}
 use Rattle.rotation.proofs.row1.Statement.{statement}
 use Rattle.rotation.proofs.row1.Tie as tie
 

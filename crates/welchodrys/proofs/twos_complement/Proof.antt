@@ -1,12 +1,15 @@
 use mathlib.Core.Path.{_≡_, sym, _∙_, ap, subst}
 use mathlib.Core.Bool.{true, false}
-use Prim.Native.Nat.{_-_}
+use Prim.Native.Nat.{_-_, _<_}
 use native.Mathlib.Omega.{arith}
 use lib.IntN.{pos, natAbs}
 use lib.Signed.{ltZ}
 use borrow.Author.Needs.{needs}
 use mir.Facts.{toZ-ofZ}
-use Rattle.cubemap.proofs.Answers.{complement-below, complement-above, below-positive}
+use Rattle.arithmetic.proofs.Tests.{passes}
+use Rattle.arithmetic.proofs.Sizes.{negative-size}
+use Rattle.arithmetic.proofs.Held.{tests-negative}
+use Rattle.cubemap.proofs.Answers.{complement-below, complement-above}
 use Rattle.welchodrys.proofs.twos_complement.Statement.{statement}
 use Rattle.welchodrys.proofs.twos_complement.Tie as tie
 
@@ -20,8 +23,11 @@ module _ (c : tie.Then1) where
   below : ltZ (c .before .before .args .v) (pos 0) ≡ true
   below = subst (λ z. ltZ z (pos 0) ≡ true) (toZ-ofZ (c .before .before .fits .v)) (c .if1 .taken)
 
+  positive : 0 < natAbs (c .before .before .args .v)
+  positive = negative-size (c .before .before .args .v) (passes (tests-negative (toZ-ofZ (c .before .before .fits .v)) (c .if1 .taken)))
+
 sub-result : tie.Need-sub-result
-sub-result c = omega (arith, size-is (c .before), below-positive (c .before .before .args .v) (below c))
+sub-result c = omega (arith, size-is (c .before), positive c)
 
 sub-result-2 : tie.Need-sub-result-2
 sub-result-2 c = search needs
@@ -31,7 +37,7 @@ returns c =
     omega (
       arith,
       size-is (c .before),
-      below-positive (c .before .before .args .v) (below c),
+      positive c,
       complement-below (c .before .before .args .v) (below c),
     )
 
