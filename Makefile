@@ -1,5 +1,6 @@
-# `make` proves the crates, builds the archive, runs the C example and shows the marked cases; `make test` is what .ci/run calls.
-.PHONY: all test clean tools format prove archive example reference marked
+# `make` proves the crates, builds the archive and the program `rays`, runs the C example and the program, and shows the marked cases;
+# `make test` is what .ci/run calls.
+.PHONY: all test clean tools format prove archive program example listing reference marked
 # One step after the other, in the order in which a target names them.
 .NOTPARALLEL:
 
@@ -9,11 +10,11 @@ CARGO = CARGO_TARGET_DIR="$(CURDIR)/build/reference" WELCHODRYS_LIBRARY_DIR="$(C
 CARGO_FLAGS = --quiet --offline --locked --release --manifest-path reference/Cargo.toml
 TOOLS = awk $(firstword $(CC))
 
-all: tools prove example marked
+all: tools prove example listing marked
 
 # The verdict comes last: `rt ci` starts from nothing, and its last line is 'N passed, M failed'.
 test: TOOLS += cargo
-test: tools format marked reference example
+test: tools format marked reference example listing
 	@rt ci
 
 tools:
@@ -35,12 +36,24 @@ marked:
 	@tools/marked-cases
 	@echo
 
-# The archive is copied out of target/, because `rt ci` removes that folder.
+# The archive and the program are copied out of target/, because `rt ci` removes that folder.
 archive:
 	@mkdir -p build
 	@echo "Building build/libwelchodrys.a (its crates are proved first) .."
 	@rt staticlib welchodrys >build/staticlib.log 2>&1 || { cat build/staticlib.log; exit 1; }
 	@cp target/staticlib/libwelchodrys.a build/libwelchodrys.a
+	@echo
+
+program:
+	@mkdir -p build
+	@echo "Building build/rays (its crates are proved first) .."
+	@rt check rays >build/rays.log 2>&1 || { cat build/rays.log; exit 1; }
+	@cp target/bin/rays build/rays
+	@echo
+
+listing: program
+	@echo "The program rays on the paper's four records (crates/rays/stdin):"
+	@build/rays <crates/rays/stdin
 	@echo
 
 example: archive
@@ -49,11 +62,14 @@ example: archive
 	@build/three_calls
 	@echo
 
-# The reference is written from the paper alone; the differential test compares the archive with it.
-reference: archive
+# The reference is written from the paper alone; the archive and the program are compared with it.
+reference: archive program
 	@echo "The reference's own tests, and the archive compared with the reference, call by call:"
 	@$(CARGO) test $(CARGO_FLAGS)
 	@$(CARGO) run $(CARGO_FLAGS) --bin differential
+	@echo
+	@echo "The program rays compared with its stored runs (crates/rays/runs) and with the reference, byte by byte:"
+	@$(CARGO) run $(CARGO_FLAGS) --bin listing build/rays crates/rays/runs
 	@echo
 
 clean:

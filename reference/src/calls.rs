@@ -52,7 +52,7 @@ pub fn look_up(size: u64, format: u64, ray: [i64; 3], answer: &mut [u8]) -> u64 
     finished(look_up_outcome(i128::from(size), i128::from(format), ray.map(i128::from)), answer)
 }
 
-fn look_up_outcome(size: i128, format: i128, ray: [i128; 3]) -> Result<Vec<i128>, Refusal> {
+pub(crate) fn look_up_outcome(size: i128, format: i128, ray: [i128; 3]) -> Result<Vec<i128>, Refusal> {
     checks::face_size(size)?;
     let format = checks::format(format)?;
     checks::ray_range(ray)?;

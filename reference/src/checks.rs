@@ -58,3 +58,13 @@ pub fn ray_range(ray: [i128; 3]) -> Result<(), Refusal> {
 pub fn ray_nonzero(ray: [i128; 3]) -> Result<(), Refusal> {
     ask(14, ray.iter().any(|&number| number != 0))
 }
+
+/// "15. Is the record's kind 1 with length 15?"
+pub fn record_kind(kind: i128, length: usize) -> Result<(), Refusal> {
+    ask(15, kind == 1 && length == 15)
+}
+
+/// "16. Is the record whole?" If it is, the answer is the record.
+pub fn record_whole<Record>(record: Option<Record>) -> Result<Record, Refusal> {
+    record.ok_or(Refusal { number: 16, index: 0 })
+}

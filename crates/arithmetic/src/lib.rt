@@ -1,10 +1,10 @@
 // Small functions on signed 64-bit numbers that the crates above share. The mathematics that the toolchain's libraries lack stands in
 // specs/ and proofs/.
 ghost use mathlib.Core.Path.{_≡_};
-ghost use Prim.Native.Nat.{_≤_, _<_, _^_};
+ghost use Prim.Native.Nat.{_<_, _^_};
 ghost use lib.Dec.{leb};
 ghost use lib.IntN.{natAbs};
-ghost use Rattle.arithmetic.specs.Integers.{withSignOf, isNegative};
+ghost use Rattle.arithmetic.specs.Integers.{withSignOf};
 
 // The size of x, of the lowest number too.
 pub fn magnitude(x: i64) -> u64

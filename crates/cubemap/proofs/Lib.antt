@@ -26,3 +26,6 @@ pub mod CubeRotations
 pub mod RotatedRays
 pub mod Conversion
 pub mod Weights
+pub mod Records
+pub mod Decimals
+pub mod Listings

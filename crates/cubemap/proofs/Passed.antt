@@ -3,10 +3,11 @@ use mathlib.Core.Path.{_≡_, refl, _∙_, ap}
 use mathlib.Core.Bool.{Bool, true, false, _&&_, not, cond}
 use mathlib.Core.List.{List, [], _∷_, _++_}
 use Prim.Native.Nat.{ℕ, _≤_, _<_}
+use native.Mathlib.Omega.{arith}
 use lib.Dec.{T, eqb, leb, leb→le, le→leb, T-not}
 use lib.ListN.{length}
 use borrow.Author.Tests.{lt-leb}
-use Rattle.arithmetic.proofs.Tests.{and-left, and-right, and-both, and-false, All3, and3, cond-true}
+use Rattle.arithmetic.proofs.Tests.{and-left, and-right, and-both, and-false, All3, and3, cond-true, cond-both}
 use Rattle.cubemap.specs.declared.Ray.{Ray}
 use Rattle.cubemap.specs.Interface.{answer, accepted, isAccepted}
 use Rattle.cubemap.specs.Checks.{ConvertSettings, ScoreSettings, targetShape, Check, check, firstFailed, between, sizeOK, depthOK, codeOK}
@@ -44,6 +45,21 @@ holding (c ∷ cs) h = go (c .holds) (h .0) (holding cs (h .1))
     go : (b : Bool) → T b → firstFailed cs ≡ accepted → cond b (firstFailed cs) (answer (c .number) (c .index)) ≡ accepted
     go true t ih = ih
     go false t ih = absurd t
+
+-- no check has a number above n
+abbrev pub numberedUpTo : ℕ → List Check → Bool
+numberedUpTo n [] = true
+numberedUpTo n (c ∷ cs) = leb (c .number) n && numberedUpTo n cs
+
+-- and then no call ends with one
+pub failed-number : (n : ℕ) (cs : List Check) → T (numberedUpTo n cs) → firstFailed cs .number ≤ n
+unfolding firstFailed
+failed-number n [] t = omega arith
+failed-number n (c ∷ cs) t =
+    let ih = failed-number n cs (and-right (leb (c .number) n) (numberedUpTo n cs) t) in
+    cond-both (λ a. a .number ≤ n) (c .holds) (firstFailed cs) (answer (c .number) (c .index))
+    (λ h. ih)
+    (λ f. leb→le (c .number) n (and-left (leb (c .number) n) (numberedUpTo n cs) t))
 
 -- the first that fails, where those in front of it hold
 pub failing : (front : List Check) (c : Check) (rest : List Check) → AllHold front → c .holds ≡ false
@@ -214,3 +230,14 @@ look-up-checks A format v = refl
 pub look-up-accepted : (A format : ℕ) (v : Ray) → LookUpPassed A format v → firstFailed (lookUpChecks A format v) ≡ accepted
 unfolding lookUpChecks
 look-up-accepted A format v p = holding (lookUpChecks A format v) (p .size, (p .format-code, (p .in-range, (p .nonzero, tt))))
+
+pub look-up-passed : (A format : ℕ) (v : Ray) → T (isAccepted (firstFailed (lookUpChecks A format v))) → LookUpPassed A format v
+unfolding lookUpChecks
+look-up-passed A format v t = go (all-hold (lookUpChecks A format v) tt t)
+  where
+    go : AllHold (lookUpChecks A format v) → LookUpPassed A format v
+    go (q1, (q4, (q13, (q14, end)))) = record { size = q1; format-code = q4; in-range = q13; nonzero = q14 }
+
+pub look-up-number : (A format : ℕ) (v : Ray) → firstFailed (lookUpChecks A format v) .number ≤ 16
+unfolding lookUpChecks
+look-up-number A format v = failed-number 16 (lookUpChecks A format v) tt

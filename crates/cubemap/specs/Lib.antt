@@ -7,7 +7,7 @@ pub mod Samplers
 pub mod Score
 pub mod Checks
 pub mod Outcomes
-pub mod Promises
 pub mod Listing
+pub mod Promises
 pub mod Marked
 pub mod Examples

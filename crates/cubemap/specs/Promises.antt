@@ -2,13 +2,15 @@
 -- buffer afterwards. "No buffer that a call writes overlaps another one lent to it; the maker owes this, and a call without
 -- it is outside every promise."
 use mathlib.Core.Path.{_≡_}
-use mathlib.Core.List.{List}
+use mathlib.Core.List.{List, _++_}
 use Prim.Native.Nat.{ℕ}
+use lib.ListN.{length, drop}
 use Rattle.cubemap.specs.declared.Ray.{Ray}
 use Rattle.cubemap.specs.declared.Rotation.{Rotation}
 use Rattle.cubemap.specs.Interface.{returnCode}
 use Rattle.cubemap.specs.Checks.{ConvertSettings, ScoreSettings}
 use Rattle.cubemap.specs.Outcomes.{Outcome, convertOutcome, scoreOutcome, foldOutcome, equalOutcome, lookUpOutcome}
+use Rattle.cubemap.specs.Listing.{listing}
 
 -- what a call returned, and what the buffer that it writes holds then, are those of the outcome
 pub record Gives (o : Outcome) (returned : ℕ) (buffer : List ℕ) : Type 0 where
@@ -66,3 +68,9 @@ EqualPromise first second buffer returned bufferAfter = Gives (equalOutcome firs
 
 abbrev pub LookUpPromise : ℕ → ℕ → Ray → List ℕ → ℕ → List ℕ → Type 0
 LookUpPromise A format v buffer returned bufferAfter = Gives (lookUpOutcome A format v buffer) returned bufferAfter
+
+-- ---- the listing: the input, the lent buffer before, how many bytes the listing has, the buffer after
+
+pub record ListingPromise (input buffer : List ℕ) (written : ℕ) (bufferAfter : List ℕ) : Type 0 where
+  pub counts : written ≡ length (listing input)
+  pub holds : bufferAfter ≡ listing input ++ drop written buffer

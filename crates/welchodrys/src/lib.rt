@@ -1,6 +1,6 @@
 // The calls that C makes: numbers and lent buffers go in, a code and bytes come out. Each is thin over the function that does the work.
 ghost use mathlib.Core.Path.{_≡_};
-ghost use Prim.Native.Nat.{_+_, _%_, _^_, _≤_, _<_};
+ghost use Prim.Native.Nat.{_+_, _%_, _≤_, _<_};
 ghost use lib.IntN.{pos};
 ghost use lib.ListN.{length};
 ghost use lib.Seq.{sets};
@@ -105,24 +105,7 @@ fn put_located(answer: &mut [u8], p: Located)
 fn refusal_code(refused: Refusal) -> u64
     ensures { λ r. ⌜ r ≡ returnCode (refusal refused) ⌝ }
 {
-    match refused {
-        Refusal::FaceSize => 1,
-        Refusal::TargetSize => 2,
-        Refusal::Depth => 3,
-        Refusal::Code => 4,
-        Refusal::Layout => 5,
-        Refusal::RotationRange => 6,
-        Refusal::RotationZero => 7,
-        Refusal::FirstLength => 8,
-        Refusal::SecondLength => 9,
-        Refusal::FirstSample(i) => 10 + 256 * (i as u64),
-        Refusal::SecondSample(i) => 11 + 256 * (i as u64),
-        Refusal::FoldedRange => 12,
-        Refusal::RayRange => 13,
-        Refusal::RayZero => 14,
-        Refusal::RecordKind => 15,
-        Refusal::RecordCut => 16,
-    }
+    refusals::number(refused) + 256 * refusals::index(refused)
 }
 
 // ---- the calls

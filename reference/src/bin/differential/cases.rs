@@ -2,9 +2,9 @@
 
 use crate::call::Call;
 use crate::comparison::Comparison;
-use crate::coverage::{answer_lengths, LARGEST_RAY};
-use crate::random::Random;
+use crate::coverage::answer_lengths;
 use reference::positions::{exact_position, is_halfway, Format};
+use reference::random::{face_size, ray, Random, LARGEST_RAY};
 use reference::rotations::product;
 
 /// Numbers that no turn may have; some are in range once cut to 32, 16 or 8 bits.
@@ -110,7 +110,7 @@ fn equal_pair(random: &mut Random) -> (Rotation, Rotation) {
 fn far(random: &mut Random) -> i64 {
     match random.below(3) {
         0 => random.within(31) + random.sign() * (1 << (6 + random.below(57))),
-        1 => random.next() as i64,
+        1 => random.bits() as i64,
         _ => random.pick(&FAR),
     }
 }
@@ -184,34 +184,6 @@ pub fn equalities(comparison: &mut Comparison) {
     rotation_calls(comparison, 150_000, equal_pair, equal_call);
 }
 
-fn face_size(random: &mut Random) -> u64 {
-    match random.below(3) {
-        0 => random.pick(&[1, 2, 3, 4, 5, 7, 64, 511, 512]),
-        _ => 1 + random.below(512) as u64,
-    }
-}
-
-/// A ray in range, with axes of the same size more often than by chance.
-fn ray(random: &mut Random) -> [i64; 3] {
-    let size = LARGEST_RAY >> random.below(29);
-    let same_size = random.once_in(2);
-    let mut numbers = [0; 3].map(|_| {
-        let own_size = if same_size { size } else { LARGEST_RAY >> random.below(29) };
-        random.within(own_size)
-    });
-    if random.once_in(4) {
-        let (from, to) = (random.below(3), random.below(3));
-        numbers[to] = random.sign() * numbers[from];
-    }
-    if random.once_in(8) {
-        numbers[random.below(3)] = random.sign() * size;
-    }
-    if random.once_in(16) {
-        numbers = numbers.map(|_| random.sign() * numbers[0]);
-    }
-    numbers
-}
-
 /// A ray with `d` on one axis and `scaled` on another, and a random number of at most that size on the third; signs are random.
 fn ray_of(random: &mut Random, scaled: i64, d: i64) -> [i64; 3] {
     let mut numbers = [d, scaled, random.within(d)];
@@ -274,7 +246,7 @@ pub fn look_ups(comparison: &mut Comparison) {
     }
     for _ in 0..150_000 {
         let random = &mut comparison.random;
-        let (size, format, ray) = (face_size(random), random.next() % 2, ray(random));
+        let (size, format, ray) = (face_size(random), random.bits() % 2, ray(random));
         comparison.compare(Call::LookUp { size, format, ray });
     }
     // Halves. In CMP they are k / 64A for each odd k; in ACP they are searched for.
@@ -318,8 +290,8 @@ pub fn look_ups(comparison: &mut Comparison) {
     for length in answer_lengths() {
         for _ in 0..40 {
             let random = &mut comparison.random;
-            let (size, format, ray) = (face_size(random), random.next() % 2, ray(random));
-            let wrong_size = 513 + (random.next() >> 1);
+            let (size, format, ray) = (face_size(random), random.bits() % 2, ray(random));
+            let wrong_size = 513 + (random.bits() >> 1);
             for (size, format, ray) in [
                 (size, format, ray),
                 (wrong_size, format, ray),

@@ -3,7 +3,7 @@
 use crate::call::Call;
 use crate::coverage::Coverage;
 use crate::lent::{self, Lent};
-use crate::random::Random;
+use reference::random::Random;
 use std::ffi::c_int;
 use std::sync::Mutex;
 

@@ -2,14 +2,12 @@
 
 use crate::call::Call;
 use reference::positions::{self, Format, OnFace};
+use reference::random::LARGEST_RAY;
 use reference::rotations;
 use std::collections::BTreeMap;
 
 /// A case: the call's name, what happened, and where or with which number.
 type Case = (&'static str, &'static str, i128);
-
-/// The bound of question 13.
-pub const LARGEST_RAY: i64 = 536_870_911;
 
 /// The answer lengths that every call is made with.
 pub fn answer_lengths() -> impl Iterator<Item = usize> {

@@ -6,11 +6,10 @@ mod cases;
 mod comparison;
 mod coverage;
 mod lent;
-mod random;
 
 use call::Call;
 use comparison::Comparison;
-use random::Random;
+use reference::random::Random;
 use std::process::ExitCode;
 
 fn main() -> ExitCode {
