@@ -11,7 +11,7 @@ use lib.Signed.{ltZ}
 use borrow.Author.Tests.{le-leb, lt-leb}
 use Rattle.arithmetic.proofs.Tests.{passes, fails}
 use Rattle.cubemap.specs.declared.Refusal.{Refusal}
-use Rattle.cubemap.specs.Interface.{accepted, returnCode, littleEndian, twosComplement, putAt, putAll}
+use Rattle.cubemap.specs.Interface.{accepted, isAccepted, returnCode, littleEndian, twosComplement, putAt, putAll}
 use Rattle.cubemap.specs.Outcomes.{Result, result, refusal, refused, written}
 use Rattle.cubemap.specs.Promises.{Gives}
 
@@ -50,6 +50,26 @@ put-none buffer k = refl
 pub put-next : (buffer after : List ℕ) (k : ℕ) (v : ℤ) (vs : List ℤ) → after ≡ putAt buffer k v → putAll after (suc k) vs ≡ putAll buffer k (v ∷ vs)
 unfolding putAll
 put-next buffer after k v vs e = ap (λ b. putAll b (suc k) vs) e
+
+-- ---- a refusal is no acceptance
+
+pub not-accepted : (q : Refusal) → isAccepted (refusal q) ≡ false
+not-accepted Refusal.FaceSize = refl
+not-accepted Refusal.TargetSize = refl
+not-accepted Refusal.Depth = refl
+not-accepted Refusal.Code = refl
+not-accepted Refusal.Layout = refl
+not-accepted Refusal.RotationRange = refl
+not-accepted Refusal.RotationZero = refl
+not-accepted Refusal.FirstLength = refl
+not-accepted Refusal.SecondLength = refl
+not-accepted (Refusal.FirstSample i) = refl
+not-accepted (Refusal.SecondSample i) = refl
+not-accepted Refusal.FoldedRange = refl
+not-accepted Refusal.RayRange = refl
+not-accepted Refusal.RayZero = refl
+not-accepted Refusal.RecordKind = refl
+not-accepted Refusal.RecordCut = refl
 
 -- ---- what a call gives, by its result
 

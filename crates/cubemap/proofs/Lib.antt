@@ -29,3 +29,4 @@ pub mod Weights
 pub mod Records
 pub mod Decimals
 pub mod Listings
+pub mod ListingLengths

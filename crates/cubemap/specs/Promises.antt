@@ -69,8 +69,9 @@ EqualPromise first second buffer returned bufferAfter = Gives (equalOutcome firs
 abbrev pub LookUpPromise : ℕ → ℕ → Ray → List ℕ → ℕ → List ℕ → Type 0
 LookUpPromise A format v buffer returned bufferAfter = Gives (lookUpOutcome A format v buffer) returned bufferAfter
 
--- ---- the listing: the input, the lent buffer before, how many bytes the listing has, the buffer after
+-- ---- the listing: the input and the lent buffer before, how many bytes the listing has, both after
 
-pub record ListingPromise (input buffer : List ℕ) (written : ℕ) (bufferAfter : List ℕ) : Type 0 where
+pub record ListingPromise (input buffer : List ℕ) (written : ℕ) (inputAfter bufferAfter : List ℕ) : Type 0 where
   pub counts : written ≡ length (listing input)
   pub holds : bufferAfter ≡ listing input ++ drop written buffer
+  pub input-stays : inputAfter ≡ input

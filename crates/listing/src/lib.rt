@@ -19,7 +19,7 @@ use cubemap::Refusal;
 pub const LONGEST: usize = 174600;
 
 // "Input beyond 65,536 bytes counts as absent."
-pub const MOST: usize = 65536;
+pub const LIMIT: usize = 65536;
 
 // ---- records: each function takes the input from a record's first byte on
 
@@ -74,6 +74,7 @@ fn is_ray_record(bytes: &[u8]) -> bool
     (two_bytes(bytes, 4) == 1) & (four_bytes(bytes, 0) == 15)
 }
 
+// The ray of a record that passes 15: its body begins at byte 6, with the format and the face size in front of the ray.
 fn ray_of(bytes: &[u8]) -> Ray
     requires { ⌜ 21 ≤ length (now bytes) ⌝ }
     ensures { λ r. ⌜ r ≡ paper.recordRay (now (bytes .entry)) ⌝ }
@@ -119,6 +120,7 @@ fn put_byte(text: &mut [u8], at: usize, b: u8) -> usize
     at + 1
 }
 
+// A text as it stands.
 fn put_bytes(text: &mut [u8], at: usize, more: &[u8]) -> usize
     requires { ⌜ at + length (now more) ≤ length (now text) ⌝ }
     ensures { λ r. ⌜ Put (now (text .entry)) at (now (more .entry)) r (now (text .exit)) ⌝ }
@@ -143,6 +145,7 @@ fn put_decimal(text: &mut [u8], at: usize, n: u64) -> usize
     put_byte(text, last, (48 + n % 10) as u8)
 }
 
+// A negative number begins with '-'.
 fn put_signed(text: &mut [u8], at: usize, z: i64) -> usize
     requires { ⌜ at + length (paper.decimal z) ≤ length (now text) ⌝ }
     ensures { λ r. ⌜ Put (now (text .entry)) at (paper.decimal z) r (now (text .exit)) ⌝ }
@@ -185,7 +188,7 @@ fn put_located(text: &mut [u8], at: usize, p: Located) -> usize
     put_byte(text, end, b'\n')
 }
 
-// The number of the question that refuses the record.
+// Which question refuses the record.
 fn put_refused(text: &mut [u8], at: usize, refused: Refusal) -> usize
     requires { ⌜ at + length (refusedText (refusal refused .number)) ≤ length (now text) ⌝ }
     ensures { λ r. ⌜ Put (now (text .entry)) at (refusedText (refusal refused .number)) r (now (text .exit)) ⌝ }
@@ -228,12 +231,12 @@ fn put_lines(text: &mut [u8], at: usize, input: &[u8]) -> usize
 
 // The listing of the input at the start of a buffer that has room for any; the answer is its length.
 pub fn list(input: &[u8], text: &mut [u8; LONGEST]) -> usize
-    ensures { λ r. ⌜ ListingPromise (now (input .entry)) (now (text .entry)) r (now (text .exit)) ⌝ }
+    ensures { λ r. ⌜ ListingPromise (now (input .entry)) (now (text .entry)) r (now (input .exit)) (now (text .exit)) ⌝ }
 {
     let lines = put_bytes(text, 0, b"at face column row\n");
-    if input.len() <= MOST {
+    if input.len() <= LIMIT {
         put_lines(text, lines, input)
     } else {
-        put_lines(text, lines, &input[..MOST])
+        put_lines(text, lines, &input[..LIMIT])
     }
 }

@@ -4,7 +4,7 @@ use libc::STDIN_FILENO;
 use libc::STDOUT_FILENO;
 
 fn main() {
-    let mut input = [0u8; listing::MOST];
+    let mut input = [0u8; listing::LIMIT];
     let read = io::read_full(STDIN_FILENO, &mut input);
     let mut text = [0u8; listing::LONGEST];
     let written = listing::list(&input[..read], &mut text);

@@ -7,7 +7,8 @@ use lib.ListN.{length, take, drop}
 use lib.Seq.{sets-eq, take-all, length-take-le}
 use Rattle.cubemap.specs.Listing.{listing}
 use Rattle.cubemap.specs.Promises.{ListingPromise}
-use Rattle.cubemap.proofs.Listings.{linesFrom, header, listing-lines, listing-length}
+use Rattle.cubemap.proofs.Listings.{linesFrom, header, listing-lines}
+use Rattle.cubemap.proofs.ListingLengths.{listing-length}
 use Rattle.listing.specs.Texts.{Put}
 use Rattle.listing.proofs.Texts.{put-then, put-is, room-is, room-then}
 use borrow.Author.Needs.{needs}
@@ -16,13 +17,13 @@ use Rattle.listing.proofs.list.Tie as tie
 
 -- the whole listing at the start of the buffer, with the rest of it as it was
 whole : (input before after : List ℕ) (r : ℕ) → length (listing input) ≤ length before → Put before 0 (listing input) r after
-    → ListingPromise input before r after
-whole input before after r h p =
-    record {
-      counts = p .ends ∙ zero-add (length (listing input));
-      holds = p .holds ∙ sets-eq (listing input) before 0 (rw (zero-add (length (listing input))) h)
-          ∙ ap (λ n. listing input ++ drop n before) (sym (p .ends));
-    }
+    → ListingPromise input before r input after
+whole input before after r h p = record {
+  counts = p .ends ∙ zero-add (length (listing input));
+  holds = p .holds ∙ sets-eq (listing input) before 0 (rw (zero-add (length (listing input))) h)
+      ∙ ap (λ n. listing input ++ drop n before) (sym (p .ends));
+  input-stays = refl;
+}
 
 -- behind the header, with the input that counts
 module _ (c : tie.After-put-bytes) where
@@ -43,9 +44,10 @@ module _ (c : tie.After-put-bytes) where
     lines-room = room-then header (linesFrom 0 b) (c .put-bytes .ensures) (room-is _ _ parts fits)
 
     promised : {r : ℕ} {after : List ℕ} → Put (c .put-bytes .last .0) (c .put-bytes .result) (linesFrom 0 b) r after
-        → ListingPromise input (start .args .text .now) r after
+        → ListingPromise input (start .args .text .now) r input after
     promised q =
-        whole input (start .args .text .now) _ _ (omega (arith, fits)) (put-is (sym parts) (put-then header (linesFrom 0 b) (c .put-bytes .ensures) q))
+        whole input (start .args .text .now) _ _ (omega (arith, fits))
+        (put-is (sym parts) (put-then header (linesFrom 0 b) (c .put-bytes .ensures) q))
 
 -- an input within the limit counts whole
 short : (c : tie.Then1) → take 65536 (input (c .before)) ≡ input (c .before)

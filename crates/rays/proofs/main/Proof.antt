@@ -11,7 +11,7 @@ use Rattle.rays.proofs.main.Statement.{statement}
 use Rattle.rays.proofs.main.Tie as tie
 
 -- a listing lies within the buffer
-within : {input before after : List ℕ} {r : ℕ} → ListingPromise input before r after → r ≤ length after
+within : {input before same after : List ℕ} {r : ℕ} → ListingPromise input before r same after → r ≤ length after
 within {input} {before} {r = r} p = omega (arith, p .counts, ap length (p .holds), length-append (listing input) (drop r before))
 
 slice-aggregate-read-full : tie.Need-slice-aggregate-read-full
