@@ -4,6 +4,7 @@ use crate::coverage::Coverage;
 use crate::program::Program;
 use crate::runs::StoredRun;
 use reference::listing::listing;
+use std::path::Path;
 
 /// The comparison stops after so many differences.
 const ENOUGH: u32 = 10;
@@ -40,6 +41,20 @@ impl Comparison {
         }
     }
 
+    /// Where standard input cannot be read, or standard output cannot be written, the program says so and lists nothing.
+    pub fn compare_failures(&mut self, folder: &Path) {
+        for (stream, run) in [("input", self.program.unreadable(folder)), ("output", self.program.unwritable())] {
+            let said = match run {
+                Ok(run) if run.stdout.is_empty() => String::from_utf8_lossy(&run.stderr).into_owned(),
+                Ok(run) => format!("a listing of {} bytes", run.stdout.len()),
+                Err(message) => message,
+            };
+            if !said.starts_with(&format!("rays: standard {stream}: ")) {
+                self.differ(&format!("standard {stream} fails"), &[], &format!("the program gave {said:?}"));
+            }
+        }
+    }
+
     /// Compares the program with the reference.
     pub fn compare(&mut self, input: &[u8]) {
         let origin = format!("seed {}, input {}", self.seed, self.inputs);
@@ -53,12 +68,14 @@ impl Comparison {
         if written.as_deref() == Ok(expected) {
             return;
         }
+        let what = written.map_or_else(|message| message, |written| first_difference(&written, expected));
+        self.differ(origin, input, &format!("{writer} {what}"));
+    }
+
+    fn differ(&mut self, origin: &str, input: &[u8], what: &str) {
         self.differences += 1;
         println!("difference: {origin}, {} bytes: {}", input.len(), hexadecimal(input));
-        match written {
-            Ok(written) => println!("  {writer} {}", first_difference(&written, expected)),
-            Err(message) => println!("  {writer} {message}"),
-        }
+        println!("  {what}");
         if self.differences == ENOUGH {
             println!("stopped after {ENOUGH} differences");
             std::process::exit(1);

@@ -1,5 +1,5 @@
 //! Compares the program `rays`, run by run, with the stored runs and with the reference's listing of random inputs: every byte
-//! that it writes. It must end with status 0 and write nothing on standard error.
+//! that it writes. It must end with status 0 and write nothing on standard error, unless it cannot read or write.
 
 mod comparison;
 mod coverage;
@@ -35,6 +35,7 @@ fn main() -> ExitCode {
     for run in &stored {
         comparison.compare_stored(run);
     }
+    comparison.compare_failures(Path::new(folder));
     inputs::compare_all(&mut comparison, &mut Random::new(seed));
     report(&stored, &comparison)
 }

@@ -1,7 +1,9 @@
 //! The program `rays` as a process of its own.
 
+use std::fs::File;
 use std::io::{ErrorKind, Read, Write};
-use std::process::{Child, ChildStdin, Command, Stdio};
+use std::path::Path;
+use std::process::{Child, ChildStdin, Command, Output, Stdio};
 use std::sync::mpsc;
 use std::thread;
 use std::time::Duration;
@@ -28,9 +30,27 @@ impl Program {
     pub fn listing(&self, parts: &[&[u8]]) -> Result<Vec<u8>, String> {
         let mut command = Command::new(&self.path);
         let piped = command.stdin(Stdio::piped()).stdout(Stdio::piped()).stderr(Stdio::piped());
-        let child = piped.spawn().map_err(|error| format!("cannot be started: {error}"))?;
+        let child = piped.spawn().map_err(not_started)?;
         attended(child, parts)
     }
+
+    /// What the program writes, and what it says on standard error, where standard input is a folder, which cannot be read.
+    pub fn unreadable(&self, folder: &Path) -> Result<Output, String> {
+        let folder = File::open(folder).map_err(not_started)?;
+        Command::new(&self.path).stdin(folder).output().map_err(not_started)
+    }
+
+    /// The same where standard input is empty and standard output a device that is full.
+    pub fn unwritable(&self) -> Result<Output, String> {
+        let full = File::options().write(true).open("/dev/full").map_err(not_started)?;
+        let mut command = Command::new(&self.path);
+        let child = command.stdin(Stdio::null()).stdout(full).stderr(Stdio::piped()).spawn().map_err(not_started)?;
+        child.wait_with_output().map_err(not_started)
+    }
+}
+
+fn not_started(error: std::io::Error) -> String {
+    format!("cannot be started: {error}")
 }
 
 /// Writes the input and reads both outputs at the same time, so that neither side waits for the other.
