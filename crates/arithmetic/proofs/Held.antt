@@ -46,6 +46,9 @@ held-literal n t = held-nat (le-refl n) t
 pub read-back : {X : Type 0} (f : ℤ → X) {r : X} (x : ℤ) → SFits w64 x → r ≡ f (toZ w64 (ofZ w64 x)) → r ≡ f x
 read-back f x s e = e ∙ ap f (toZ-ofZ s)
 
+pub read-sign : {b : Bool} (x : ℤ) → SFits w64 x → ltZ (toZ w64 (ofZ w64 x)) (pos 0) ≡ b → ltZ x (pos 0) ≡ b
+read-sign x s e = sym (read-back (λ x. ltZ x (pos 0)) x s (sym e))
+
 pub read-within : (B : ℕ) {r : Bool} (x : ℤ) → SFits w64 x → r ≡ leb (natAbs (toZ w64 (ofZ w64 x))) B → r ≡ leb (natAbs x) B
 read-within B = read-back (λ x. leb (natAbs x) B)
 

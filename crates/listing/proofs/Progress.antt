@@ -47,9 +47,9 @@ module _ {before after : List ℕ} {at end k from : ℕ} (input : List ℕ) (p :
 
     -- n bytes on, behind the record
     module _ {n : ℕ} (e : n ≡ passed (drop from input)) where
-      pub on : 0 < n
+      pub goes-on : 0 < n
       unfolding rest
-      on = omega (arith, passed-some rest some)
+      goes-on = omega (arith, passed-some rest some)
 
       pub not-beyond : from + n ≤ length input
       unfolding rest
@@ -60,7 +60,7 @@ module _ {before after : List ℕ} {at end k from : ℕ} (input : List ℕ) (p :
       unfolding next-line rest
       one-more q = record {
         within = not-beyond;
-        counted = omega (arith, p .counted, on);
+        counted = omega (arith, p .counted, goes-on);
         lines = p .lines ++ next-line;
         left = append-assoc (p .lines) next-line (linesFrom (k + 1) (drop (from + n) input))
             ∙ ap₂ (λ m b. p .lines ++ (next-line ++ linesFrom m b)) (add-one k)

@@ -86,11 +86,12 @@ fn ray_of(bytes: &[u8]) -> Ray
     }
 }
 
-// What a record comes to: 16, 15, then the look-up's questions.
-fn result_of(bytes: &[u8]) -> LookedUp
+// What a record comes to: 16, which was asked already, 15, then the look-up's questions.
+fn result_of(bytes: &[u8], whole: bool) -> LookedUp
+    requires { ⌜ whole ≡ paper.isWhole (now bytes) ⌝ }
     ensures { λ r. ⌜ lookedUpMeans r ≡ paper.recordResult (now (bytes .entry)) ⌝ }
 {
-    if !is_whole(bytes) {
+    if !whole {
         return LookedUp::Refused(Refusal::RecordCut);
     }
     if !is_ray_record(bytes) {
@@ -100,10 +101,11 @@ fn result_of(bytes: &[u8]) -> LookedUp
 }
 
 // How many bytes to pass over: the record, or all that is left where it is not whole.
-fn length_of(bytes: &[u8]) -> usize
+fn length_of(bytes: &[u8], whole: bool) -> usize
+    requires { ⌜ whole ≡ paper.isWhole (now bytes) ⌝ }
     ensures { λ r. ⌜ r ≡ passed (now (bytes .entry)) ⌝ }
 {
-    if is_whole(bytes) {
+    if whole {
         (6 + four_bytes(bytes, 0)) as usize
     } else {
         bytes.len()
@@ -222,8 +224,9 @@ fn put_lines(text: &mut [u8], at: usize, input: &[u8]) -> usize
     let mut from = 0;
     while from < input.len() {
         let bytes = &input[from..];
-        end = put_line(text, end, k, result_of(bytes));
-        from += length_of(bytes);
+        let whole = is_whole(bytes);
+        end = put_line(text, end, k, result_of(bytes, whole));
+        from += length_of(bytes, whole);
         k += 1;
     }
     end

@@ -8,7 +8,7 @@ use Rattle.cubemap.specs.Listing.{line, recordResult}
 use Rattle.cubemap.specs.Outcomes.{lookedUpMeans}
 use Rattle.cubemap.proofs.Records.{passed}
 use Rattle.listing.proofs.Texts.{put-is, put-length, room-is}
-use Rattle.listing.proofs.Progress.{Progress, none-yet, line-room, on, not-beyond, one-more, all-lines}
+use Rattle.listing.proofs.Progress.{Progress, none-yet, line-room, goes-on, not-beyond, one-more, all-lines}
 use borrow.Author.Needs.{needs}
 use Rattle.listing.proofs.put_lines.Statement.{statement}
 use Rattle.listing.proofs.put_lines.Tie as tie
@@ -22,16 +22,16 @@ abbrev μ-loop : tie.MeasureT-loop
 -- a turn of the loop: the record that begins at byte `from`
 module _ (c : tie.After-result-of Inv-loop μ-loop) where
   abbrev start : tie.Start Inv-loop μ-loop
-  start = c .before .before .before .before .before .before .before
+  start = c .before .before .before .before .before .before .before .before
 
   abbrev turn : tie.At-loop Inv-loop μ-loop
-  turn = c .before .before .before .before
+  turn = c .before .before .before .before .before
 
   abbrev input : List ℕ
   input = start .args .input .now
 
   here : turn .loop .from < length input
-  here = c .before .before .before .loop-test .taken
+  here = c .before .before .before .before .loop-test .taken
 
   bytes : take (length input - turn .loop .from) (drop (turn .loop .from) input) ≡ drop (turn .loop .from) input
   bytes = take-all (length input - turn .loop .from) (drop (turn .loop .from) input) (omega (arith, length-drop (turn .loop .from) input))
@@ -61,6 +61,9 @@ part-bytes-start c = search needs
 part-bytes-end : tie.Need-part-bytes-end Inv-loop μ-loop
 part-bytes-end c = search needs
 
+is-whole-requires : tie.Need-is-whole-requires Inv-loop μ-loop
+is-whole-requires c κs = search needs
+
 result-of-requires : tie.Need-result-of-requires Inv-loop μ-loop
 result-of-requires c κs = search needs
 
@@ -79,7 +82,7 @@ add-k c = let w = within c in let p = turn (found c) .loop .inv .counted in let 
 loop-less : tie.Need-loop-less Inv-loop μ-loop
 loop-less c =
     let p = turn (found c) in
-    omega (arith, within c, on (input (found c)) (p .loop .inv) (here (found c)) (length-is c))
+    omega (arith, within c, goes-on (input (found c)) (p .loop .inv) (here (found c)) (length-is c))
 
 loop-again : tie.Need-loop-again Inv-loop μ-loop
 loop-again c =
@@ -102,6 +105,7 @@ put-lines-spec =
     sub-bytes
     part-bytes-start
     part-bytes-end
+    is-whole-requires
     result-of-requires
     put-line-requires
     length-of-requires

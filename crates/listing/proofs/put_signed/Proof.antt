@@ -1,13 +1,8 @@
 use mathlib.Core.Path.{_≡_, sym, _∙_, ap}
-use mathlib.Core.Bool.{Bool}
 use mathlib.Core.List.{List, [], _∷_, _++_}
 use Prim.Native.Nat.{ℕ}
 use lib.IntN.{pos, natAbs}
-use lib.Signed.{ltZ}
-use mir.Syntax.{w64}
-use mir.Val.{toZ, ofZ}
-use mir.Facts.{toZ-ofZ}
-use Rattle.arithmetic.proofs.Held.{read-back}
+use Rattle.arithmetic.proofs.Held.{read-back, read-sign}
 use Rattle.cubemap.specs.Listing.{decimal}
 use Rattle.cubemap.proofs.Decimals.{decimal-below, decimal-above}
 use Rattle.listing.proofs.Texts.{put-then, put-is, room-is, room-first, room-then}
@@ -19,20 +14,17 @@ module _ (c : tie.After-magnitude) where
   size : c .magnitude .result ≡ natAbs (c .before .before .args .z)
   size = read-back natAbs (c .before .before .args .z) (search needs) (c .magnitude .ensures)
 
-  negative : {b : Bool} → ltZ (toZ w64 (ofZ w64 (c .before .before .args .z))) (pos 0) ≡ b → ltZ (c .before .before .args .z) (pos 0) ≡ b
-  negative e = ap (λ z. ltZ z (pos 0)) (sym (toZ-ofZ {z = c .before .before .args .z} (search needs))) ∙ e
-
   abbrev digits : List ℕ
   digits = decimal (pos (c .magnitude .result))
 
 below : (c : tie.Then1) → decimal (c .before .before .before .args .z) ≡ (45 ∷ []) ++ digits (c .before)
 below c =
-    decimal-below (c .before .before .before .args .z) (negative (c .before) (c .if1 .taken))
+    decimal-below (c .before .before .before .args .z) (read-sign (c .before .before .before .args .z) (search needs) (c .if1 .taken))
     ∙ ap (λ n. 45 ∷ decimal (pos n)) (sym (size (c .before)))
 
 above : (c : tie.Else1) → decimal (c .before .before .before .args .z) ≡ digits (c .before)
 above c =
-    decimal-above (c .before .before .before .args .z) (negative (c .before) (c .if1 .left))
+    decimal-above (c .before .before .before .args .z) (read-sign (c .before .before .before .args .z) (search needs) (c .if1 .left))
     ∙ ap (λ n. decimal (pos n)) (sym (size (c .before)))
 
 returns : tie.Need-returns

@@ -13,23 +13,22 @@ use borrow.Author.Needs.{needs}
 use Rattle.listing.proofs.result_of.Statement.{statement}
 use Rattle.listing.proofs.result_of.Tie as tie
 
-whole : (c : tie.Else1) → T (isWhole (c .before .before .before .args .bytes .now))
-whole c = passes (sym (c .before .is-whole .ensures) ∙ not-false (c .before .is-whole .result) (c .if1 .left))
+whole : (c : tie.Else1) → T (isWhole (c .before .before .args .bytes .now))
+whole c = let s = c .before .before in passes (sym (s .pre) ∙ not-false (s .args .whole) (c .if1 .left))
 
-ray-record : (c : tie.Else2) → T (isRayRecord (c .before .before .before .before .before .args .bytes .now))
+ray-record : (c : tie.Else2) → T (isRayRecord (c .before .before .before .before .args .bytes .now))
 ray-record c = passes (sym (c .before .is-ray-record .ensures) ∙ not-false (c .before .is-ray-record .result) (c .if2 .left))
 
 -- six leading bytes and a body of 15
-long : (c : tie.Else2) → 21 ≤ length (c .before .before .before .before .before .args .bytes .now)
+long : (c : tie.Else2) → 21 ≤ length (c .before .before .before .before .args .bytes .now)
 long c =
-    let b = c .before .before .before .before .before .args .bytes .now in
+    let b = c .before .before .before .before .args .bytes .now in
     omega (arith, whole-is b (whole (c .before .before)) .body, ray-record-length b (ray-record c))
 
-is-whole-requires : tie.Need-is-whole-requires
-is-whole-requires c κs = search needs
-
 returns : tie.Need-returns
-returns c = sym (record-cut _ (sym (c .before .is-whole .ensures) ∙ not-true (c .before .is-whole .result) (c .if1 .taken)))
+returns c =
+    let s = c .before .before in
+    sym (record-cut _ (sym (s .pre) ∙ not-true (s .args .whole) (c .if1 .taken)))
 
 is-ray-record-requires : tie.Need-is-ray-record-requires
 is-ray-record-requires c κs = whole-is _ (whole c) .head
@@ -58,7 +57,7 @@ returns-3 : tie.Need-returns-3
 returns-3 c =
     let f = c .before .before in
     let t = f .before .before in
-    let b = t .before .before .before .before .before .before .args .bytes .now in
+    let b = t .before .before .before .before .before .args .bytes .now in
     c .look-up .ensures
     ∙ (λ i. lookUpResult (t .two-bytes .ensures .0 i) ((f .wide .ensures .0 ∙ sym (add-zero _)) i) (c .before .ray-of .ensures i))
     ∙ sym (record-ray b (whole (t .before .before .before)) (ray-record (t .before)))
@@ -67,7 +66,6 @@ pub result-of-spec : {M : Type 1} → statement M
 result-of-spec =
     tie.close
     (tie.spec
-    is-whole-requires
     returns
     is-ray-record-requires
     returns-2

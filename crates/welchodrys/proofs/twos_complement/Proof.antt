@@ -1,5 +1,5 @@
-use mathlib.Core.Path.{_≡_, sym, _∙_, ap, subst}
-use mathlib.Core.Bool.{true, false}
+use mathlib.Core.Path.{_≡_, sym, _∙_}
+use mathlib.Core.Bool.{true}
 use Prim.Native.Nat.{_-_, _<_}
 use native.Mathlib.Omega.{arith}
 use lib.IntN.{pos, natAbs}
@@ -8,7 +8,7 @@ use borrow.Author.Needs.{needs}
 use mir.Facts.{toZ-ofZ}
 use Rattle.arithmetic.proofs.Tests.{passes}
 use Rattle.arithmetic.proofs.Sizes.{negative-size}
-use Rattle.arithmetic.proofs.Held.{tests-negative}
+use Rattle.arithmetic.proofs.Held.{read-back, read-sign, tests-negative}
 use Rattle.cubemap.proofs.Answers.{complement-below, complement-above}
 use Rattle.welchodrys.proofs.twos_complement.Statement.{statement}
 use Rattle.welchodrys.proofs.twos_complement.Tie as tie
@@ -17,11 +17,11 @@ magnitude-requires : tie.Need-magnitude-requires
 magnitude-requires c κs = search needs
 
 size-is : (c : tie.After-magnitude) → c .magnitude .result ≡ natAbs (c .before .args .v)
-size-is c = c .magnitude .ensures ∙ ap natAbs (toZ-ofZ (c .before .fits .v))
+size-is c = read-back natAbs (c .before .args .v) (c .before .fits .v) (c .magnitude .ensures)
 
 module _ (c : tie.Then1) where
   below : ltZ (c .before .before .args .v) (pos 0) ≡ true
-  below = subst (λ z. ltZ z (pos 0) ≡ true) (toZ-ofZ (c .before .before .fits .v)) (c .if1 .taken)
+  below = read-sign (c .before .before .args .v) (c .before .before .fits .v) (c .if1 .taken)
 
   positive : 0 < natAbs (c .before .before .args .v)
   positive = negative-size (c .before .before .args .v) (passes (tests-negative (toZ-ofZ (c .before .before .fits .v)) (c .if1 .taken)))
@@ -45,7 +45,7 @@ returns-2 : tie.Need-returns-2
 returns-2 c =
     let s = c .before .before in
     size-is (c .before)
-    ∙ sym (complement-above (s .args .v) (subst (λ z. ltZ z (pos 0) ≡ false) (toZ-ofZ (s .fits .v)) (c .if1 .left)))
+    ∙ sym (complement-above (s .args .v) (read-sign (s .args .v) (s .fits .v) (c .if1 .left)))
 
 pub twos-complement-spec : {M : Type 1} → statement M
 twos-complement-spec = tie.close (tie.spec magnitude-requires sub-result sub-result-2 returns returns-2)
