@@ -9,7 +9,7 @@ use native.Mathlib.Omega.{arith}
 use lib.Dec.{T, leb, ltb, ltb→lt, eqb, eqb→eq, eqb-refl}
 use borrow.Author.Tests.{lt-ltb, le-ltb, ne-eqb}
 use lib.IntN.{ℤ, pos, negsuc, negℤ, natAbs, _+ℤ_, _-ℤ_, _*ℤ_, +ℤ-idl, negℤ-+ℤ, -ℤ-+ℤ-cancel}
-use lib.Signed.{mag, ltZ, nonNeg, shrZ}
+use lib.Signed.{mag, ltZ, nonNeg, shrZ, natAbs-le}
 use mir.Syntax.{w64}
 use mir.Val.{SFits, Fits, toZ, ofZ}
 use mir.Facts.{toZ-ofZ}
@@ -27,6 +27,9 @@ sfits {z} h k = record { sfits = lt-of-le-of-lt (le-trans (mag-natAbs z) h) k }
 pub record Held (n : ℕ) (z : ℤ) (B : ℕ) : Type 0 where
   pub is : toZ w64 n ≡ z
   pub small : natAbs z ≤ B
+
+pub read-small : {n : ℕ} {z : ℤ} {B : ℕ} → Held n z B → natAbs (toZ w64 n) ≤ B
+read-small {B = B} p = subst (λ x. natAbs x ≤ B) (sym (p .is)) (p .small)
 
 -- ---- what is held from the start
 
@@ -51,6 +54,12 @@ read-sign x s e = sym (read-back (λ x. ltZ x (pos 0)) x s (sym e))
 
 pub read-within : (B : ℕ) {r : Bool} (x : ℤ) → SFits w64 x → r ≡ leb (natAbs (toZ w64 (ofZ w64 x))) B → r ≡ leb (natAbs x) B
 read-within B = read-back (λ x. leb (natAbs x) B)
+
+-- a bounded result of a call, read: its value and its bound
+pub read-result : {z e : ℤ} {B : ℕ} → T (ltb B (2 ^ 63)) → (z ≡ e) × (natAbs z ≤ B) → (toZ w64 (ofZ w64 z) ≡ e) × (natAbs (toZ w64 (ofZ w64 z)) ≤ B)
+read-result {z} {e} {B} t (is, small) =
+    let h : Held (ofZ w64 z) z B = held z small t in
+    (h .is ∙ is, read-small h)
 
 -- ---- the operations
 
@@ -133,6 +142,13 @@ below-zero (negsuc n) e = tt
 pub not-below-zero : (x : ℤ) → ltZ x (pos 0) ≡ false → T (nonNeg x)
 not-below-zero (pos n) e = tt
 not-below-zero (negsuc n) e = subst T e tt
+
+-- any number that is not below zero, cast to u64
+pub cast-not-below : (x : ℤ) → SFits w64 x → ltZ (toZ w64 (ofZ w64 x)) (pos 0) ≡ false
+    → T (nonNeg (toZ w64 (ofZ w64 x))) × Fits w64 (natAbs (toZ w64 (ofZ w64 x)))
+cast-not-below x f e =
+    let h = natAbs-le x (f .sfits) in
+    (not-below-zero (toZ w64 (ofZ w64 x)) e, subst (λ z. Fits w64 (natAbs z)) (sym (toZ-ofZ f)) (record { fits = omega arith }))
 
 -- ---- the size of any number, of the lowest too: one is added to a number below zero before its sign changes
 

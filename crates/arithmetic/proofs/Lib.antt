@@ -7,5 +7,6 @@ pub mod Floors
 pub mod Held
 pub mod Searches
 pub mod Sums
+pub mod Bits
 pub mod Tables
 pub mod Divisors

@@ -1,14 +1,15 @@
--- What `largest` and `lowest` find, and what `allBelow` says.
-use mathlib.Core.Path.{_≡_, refl, sym, subst}
-use mathlib.Core.Bool.{Bool, true, false, not}
+-- What `largest` and `lowest` find, what `allBelow` says, and loops that ask for them.
+use mathlib.Core.Path.{_≡_, refl, sym, _∙_, ap, subst}
+use mathlib.Core.Bool.{Bool, true, false, _&&_, not}
 use mathlib.Core.Logic.{_⊎_, inl, inr, ⊎-elim}
 use Prim.Native.Nat.{ℕ, zero, suc, _+_, _≤_, _<_}
 use native.Mathlib.Decide.{ℕ-discrete, decLt}
 use native.Mathlib.Nat.{eq-or-lt-of-le}
+use native.Mathlib.Numerals.{add-one}
 use native.Mathlib.Omega.{arith}
 use lib.Dec.{T}
 use Rattle.arithmetic.specs.Searches.{largest, lowestFrom, lowest, allBelow}
-use Rattle.arithmetic.proofs.Tests.{and-left, and-right, and-both, passes, fails}
+use Rattle.arithmetic.proofs.Tests.{and-left, and-right, and-both, passes, fails, same-test}
 
 -- ---- the largest
 
@@ -144,3 +145,46 @@ not-all test n f = lowest-below (λ i. not (test i)) n (decide (decLt r n))
     decide : Dec (r < n) → r < n
     decide (yes l) = l
     decide (no d) = absurd (f (all-of test n (λ j l. each d j l (test j) refl)))
+
+-- one number more
+pub all-next : (test : ℕ → Bool) (n : ℕ) → allBelow test (n + 1) ≡ (allBelow test n && test n)
+unfolding allBelow
+all-next test n = ap (allBelow test) (add-one n)
+
+-- ---- loops that ask one number after the other
+
+-- of n numbers the test has said b to each of the first i
+pub record Asked (test : ℕ → Bool) (b : Bool) (n i : ℕ) : Type 0 where
+  pub bounded : i ≤ n
+  pub each : (j : ℕ) → j < i → test j ≡ b
+
+pub asked-none : (test : ℕ → Bool) (b : Bool) (n : ℕ) → Asked test b n 0
+asked-none test b n = record { bounded = omega arith; each = λ j h. absurd (omega arith) }
+
+pub asked-next : {test : ℕ → Bool} {b : Bool} {n i : ℕ} → Asked test b n i → i < n → test i ≡ b → Asked test b n (i + 1)
+asked-next {test} {b} {n} {i} a h e = record { bounded = omega arith; each = λ j l. go j l (ℕ-discrete j i) }
+  where
+    go : (j : ℕ) → j < i + 1 → Dec (j ≡ i) → test j ≡ b
+    go j l (yes d) = ap test d ∙ e
+    go j l (no d) = a .each j (omega arith)
+
+-- the first that passes is the lowest
+pub lowest-here : {test : ℕ → Bool} {n i : ℕ} → Asked test false n i → i < n → test i ≡ true → lowest test n ≡ i
+lowest-here {test} {n} {i} a h e = go (lowest-is test n i h (passes e))
+  where
+    go : Lowest test n (lowest test n) → lowest test n ≡ i
+    go w = ⊎-elim (λ q. q) (λ l. absurd (fails (a .each (lowest test n) l) (w .holds))) (eq-or-lt-of-le (w .least i (passes e)))
+
+pub lowest-none : {test : ℕ → Bool} {n i : ℕ} → Asked test false n i → n ≤ i → lowest test n ≡ n
+lowest-none {test} {n} {i} a h = go (lowestFrom-is test n 0)
+  where
+    go : IsLowest test 0 n (lowest test n) → lowest test n ≡ n
+    go w = ⊎-elim (λ q. q) (λ l. absurd (fails (a .each (lowest test n) (omega arith)) (w .holds (omega arith)))) (eq-or-lt-of-le (omega arith))
+
+-- the first that fails decides
+pub all-fails : (test : ℕ → Bool) (n i : ℕ) → i < n → test i ≡ false → allBelow test n ≡ false
+all-fails test n i h e = same-test (allBelow test n) false (λ t. fails e (all-at test n t i h)) (λ t. absurd t)
+
+pub all-pass : {test : ℕ → Bool} {n i : ℕ} → Asked test true n i → n ≤ i → allBelow test n ≡ true
+all-pass {test} {n} {i} a h =
+    same-test (allBelow test n) true (λ t. tt) (λ t. all-of test n (λ j l. passes (a .each j (omega arith))))

@@ -6,7 +6,8 @@ use native.Mathlib.Nat.{eq-of-mul-eq-mul-left, mul-pos, zero-lt-suc, le-refl, mu
 use native.Mathlib.Omega.{arith}
 use lib.Dec.{T, eqb→eq, eqb-refl, ltb, ltb→lt, nltb→le}
 use lib.IntN.{ℤ, pos, negsuc, negℤ, natAbs, _+ℤ_, _-ℤ_, _*ℤ_, negℤ-negℤ, negℤ-+ℤ, +ℤ-comm, -ℤ-+ℤ-cancel, pos-ne-negsuc}
-use Rattle.arithmetic.specs.Integers.{withSignOf, isPositive, isNegative, equalℤ}
+use lib.Signed.{nonNeg}
+use Rattle.arithmetic.specs.Integers.{natural, withSignOf, isPositive, isNegative, equalℤ}
 
 -- ---- sizes
 
@@ -27,6 +28,14 @@ natAbs-mul (negsuc a) (negsuc b) = refl
 pub natAbs-zero : (x : ℤ) → natAbs x ≡ 0 → x ≡ pos 0
 natAbs-zero (pos n) e = ap pos e
 natAbs-zero (negsuc n) e = absurd (omega arith)
+
+pub natAbs-natural : (x : ℤ) → T (nonNeg x) → natAbs x ≡ natural x
+natAbs-natural (pos n) t = refl
+natAbs-natural (negsuc n) t = absurd t
+
+pub natAbs-pos : (x : ℤ) → T (nonNeg x) → x ≡ pos (natAbs x)
+natAbs-pos (pos n) t = refl
+natAbs-pos (negsuc n) t = absurd t
 
 -- a square is that of the size
 pub square : (x : ℤ) → x *ℤ x ≡ pos (natAbs x * natAbs x)

@@ -1,9 +1,10 @@
 -- Sums and counts over the numbers below n: term by term, in another order, and sums of sums.
 use mathlib.Core.Path.{_≡_, refl, sym, _∙_, ap, ap₂, subst}
 use mathlib.Core.Logic.{_≢_}
-use mathlib.Core.Bool.{Bool, cond}
+use mathlib.Core.Bool.{Bool, true, false, cond}
 use Prim.Native.Nat.{ℕ, zero, suc, _+_, _*_, _/_, _%_, _≤_, _<_}
 use native.Mathlib.Nat.{add-zero, add-suc}
+use native.Mathlib.Numerals.{add-one}
 use native.Mathlib.Decide.{ℕ-discrete}
 use native.Mathlib.Omega.{arith}
 use lib.Dec.{T, eqb, eqb→eq, eqb-refl}
@@ -147,3 +148,12 @@ count-two test (suc n) r k l h t u = go (ℕ-discrete k n) (λ m. count-two test
     go : Dec (k ≡ n) → (k < n → 2 ≤ countBelow test n) → 2 ≤ countBelow test n + cond (test n) 1 0
     go (yes e) ih = omega (arith, cond-true {X = ℕ} (test n) 1 0 (subst (λ j. T (test j)) e u), count-one test n r (omega arith) t)
     go (no d) ih = omega (arith, ih (omega arith))
+
+-- one number more
+pub count-yes : (test : ℕ → Bool) (n : ℕ) → test n ≡ true → countBelow test (n + 1) ≡ countBelow test n + 1
+unfolding sumBelow
+count-yes test n e = rw (add-one n, e)
+
+pub count-no : (test : ℕ → Bool) (n : ℕ) → test n ≡ false → countBelow test (n + 1) ≡ countBelow test n
+unfolding sumBelow
+count-no test n e = rw (add-one n, e) (add-zero (countBelow test n))

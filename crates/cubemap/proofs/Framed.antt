@@ -1,18 +1,20 @@
--- A sample of `framed` is what was framed; a frame whose bytes are given place by place; and which frames pass checks 10 and 11.
+-- A sample of `framed` is what was framed; a frame whose bytes are given place by place; and which frames pass checks 8 to 11.
 use mathlib.Core.Path.{_≡_, refl, sym, _∙_, ap, ap₂}
 use mathlib.Core.Bool.{not}
 use mathlib.Core.List.{List, [], _∷_, _++_}
 use Prim.Native.Nat.{ℕ, zero, suc, _+_, _*_, _^_, _<_}
 use native.Mathlib.Decide.{ℕ-discrete}
 use native.Mathlib.Omega.{arith}
-use lib.Dec.{T, ltb→lt, lt→ltb}
-use lib.ListN.{length, length-append, getD, List·getD-append}
+use lib.Dec.{T, eqb, ltb→lt, lt→ltb}
+use lib.ListN.{length, length-append, take, drop, getD, List·getD-append}
+use lib.Seq.{getD-take, getD-drop}
+use Rattle.arithmetic.specs.Searches.{lowest, allBelow}
 use Rattle.arithmetic.proofs.Searches.{all-at, all-of, Lowest, not-all}
 use Rattle.cubemap.specs.declared.Place.{Place}
 use Rattle.cubemap.specs.declared.Shape.{Shape}
 use Rattle.cubemap.specs.Interface.{littleEndian}
-use Rattle.cubemap.specs.Frames.{IsPlace, sampleAt, framed, planeSamples, samplesIn, index, placeAt, sampleAtPlace}
-use Rattle.cubemap.specs.Checks.{sampleOK, samplesOK, lowestBeyond}
+use Rattle.cubemap.specs.Frames.{IsPlace, sampleAt, framed, planeSamples, samplesIn, bytesIn, index, placeAt, sampleAtPlace}
+use Rattle.cubemap.specs.Checks.{lengthOK, sampleOK, samplesOK, lowestBeyond}
 use Rattle.cubemap.proofs.Layouts.{LayoutHolds}
 use Rattle.cubemap.proofs.Indices.{index-ok, placeAt-index, placeAt-ok}
 
@@ -40,6 +42,16 @@ getD-behind (a ∷ x) y (suc j) k e = getD-behind x y j k (omega arith)
 pub sample-behind : (x y : List ℕ) (n i : ℕ) → length x ≡ 2 * n → sampleAt (x ++ y) (n + i) ≡ sampleAt y i
 sample-behind x y n i e =
     ap₂ (λ a b. a + 256 * b) (getD-behind x y (2 * (n + i)) (2 * i) (omega arith)) (getD-behind x y (2 * (n + i) + 1) (2 * i + 1) (omega arith))
+
+-- ---- samples of a part: from byte 2·start on, j samples and more
+
+pub sample-part : (bytes : List ℕ) (start n j : ℕ) → 2 * j + 1 < n → sampleAt (take n (drop (2 * start) bytes)) j ≡ sampleAt bytes (start + j)
+sample-part bytes start n j h = ap₂ (λ a b. a + 256 * b)
+    (byte (2 * j) (2 * (start + j)) (omega arith) (omega arith))
+    (byte (2 * j + 1) (2 * (start + j) + 1) h (omega arith))
+  where
+    byte : (i k : ℕ) → i < n → 2 * start + i ≡ k → getD (take n (drop (2 * start) bytes)) i 0 ≡ getD bytes k 0
+    byte i k l e = getD-take n (drop (2 * start) bytes) i 0 l ∙ getD-drop (2 * start) bytes i 0 ∙ ap (λ k. getD bytes k 0) e
 
 -- two bytes hold what is below 65,536
 sample-bytes : (v : ℕ) → v < 65536 → sampleAt (littleEndian 2 v) 0 ≡ v
@@ -77,7 +89,29 @@ module _ (A : ℕ) (L : List ℕ) (o : LayoutHolds L) where
   planeOf-cong f g h =
       framed-cong (λ i. f (placeAt A L i)) (λ i. g (placeAt A L i)) (planeSamples A) (λ i l. h (placeAt A L i) (placeAt-ok A L o i l))
 
+-- ---- checks 8 and 9
+
+pub samples-number : (z : Shape) → samplesIn z ≡ 6 * (z .size * z .size)
+unfolding samplesIn
+samples-number z = omega arith
+
+pub bytes-number : (z : Shape) → bytesIn z ≡ 2 * samplesIn z
+unfolding bytesIn
+bytes-number z = refl
+
+pub length-test : (z : Shape) (n : ℕ) → lengthOK z n ≡ eqb n (2 * samplesIn z)
+unfolding lengthOK bytesIn
+length-test z n = refl
+
 -- ---- checks 10 and 11
+
+pub samples-test : (z : Shape) (bytes : List ℕ) → samplesOK z bytes ≡ allBelow (sampleOK z bytes) (samplesIn z)
+unfolding samplesOK
+samples-test z bytes = refl
+
+pub beyond-search : (z : Shape) (bytes : List ℕ) → lowestBeyond z bytes ≡ lowest (λ i. not (sampleOK z bytes i)) (samplesIn z)
+unfolding lowestBeyond
+beyond-search z bytes = refl
 
 pub samples-below : (z : Shape) (bytes : List ℕ) → T (samplesOK z bytes) → (i : ℕ) → i < samplesIn z → sampleAt bytes i < 2 ^ z .depth
 unfolding samplesOK

@@ -77,6 +77,22 @@ pub four-turns : (A : ℕ) (s : Spot) → Within A s → quarterTurns A 4 s ≡ 
 unfolding quarterTurns
 four-turns A s w = λ i. spot (mirror-twice A (s .column) (w .column-ok) i) (mirror-twice A (s .row) (w .row-ok) i)
 
+pub no-turn : (A : ℕ) (s : Spot) → quarterTurns A 0 s ≡ s
+unfolding quarterTurns
+no-turn A s = refl
+
+pub one-turn : (A : ℕ) (s : Spot) → quarterTurns A 1 s ≡ spot (A - 1 - s .row) (s .column)
+unfolding quarterTurns
+one-turn A s = refl
+
+pub two-turns : (A : ℕ) (s : Spot) → quarterTurns A 2 s ≡ spot (A - 1 - s .column) (A - 1 - s .row)
+unfolding quarterTurns
+two-turns A s = refl
+
+pub three-turns : (A : ℕ) (s : Spot) → Within A s → quarterTurns A 3 s ≡ spot (s .row) (A - 1 - s .column)
+unfolding quarterTurns
+three-turns A s w = ap (λ m. spot m (A - 1 - s .column)) (mirror-twice A (s .row) (w .row-ok))
+
 -- j turns after k turns
 pub turns-add : (A j k : ℕ) (s : Spot) → quarterTurns A j (quarterTurns A k s) ≡ quarterTurns A (j + k) s
 unfolding quarterTurns
@@ -105,11 +121,15 @@ turns-forth A k s h w = turns-add A k (4 - k) s ∙ ap (λ n. quarterTurns A n s
 
 -- ---- the index of a spot of a slot, and back
 
+pub slot-index : (A slot m n : ℕ) → indexInSlot A slot (spot m n) ≡ (slot / 3 * A + n) * (3 * A) + (slot % 3 * A + m)
+unfolding indexInSlot
+slot-index A slot m n = refl
+
 -- the slot and the spot at an index
-unfoldable pub slotAt : ℕ → ℕ → ℕ
+abbrev pub slotAt : ℕ → ℕ → ℕ
 slotAt A i = i / (3 * A) / A * 3 + i % (3 * A) / A
 
-unfoldable pub spotAt : ℕ → ℕ → Spot
+abbrev pub spotAt : ℕ → ℕ → Spot
 spotAt A i = spot (i % (3 * A) % A) (i / (3 * A) % A)
 
 module _ (A k : ℕ) (s : Spot) (h : k < 6) (w : Within A s) where
@@ -125,11 +145,9 @@ module _ (A k : ℕ) (s : Spot) (h : k < 6) (w : Within A s) where
   column-of = digits-mod (k / 3 * A + s .row) inner-below
 
   pub slot-at-index : slotAt A (indexInSlot A k s) ≡ k
-  unfolding slotAt
   slot-at-index = rw (row-of, column-of, digits-div (k / 3) (w .row-ok), digits-div (k % 3) (w .column-ok)) (div-add-mod' k 3)
 
   pub spot-at-index : spotAt A (indexInSlot A k s) ≡ s
-  unfolding spotAt
   spot-at-index = rw (row-of, column-of, digits-mod (k / 3) (w .row-ok), digits-mod (k % 3) (w .column-ok))
 
   pub index-below : indexInSlot A k s < planeSamples A
@@ -147,15 +165,13 @@ module _ (A i : ℕ) (h : i < planeSamples A) where
   inner-slot = div-lt-iff-lt-mul a .1 (mod-lt i (omega (arith, a)))
 
   pub slot-at-below : slotAt A i < 6
-  unfolding slotAt
   slot-at-below = digits-lt {m = 2} (div-lt-iff-lt-mul a .1 (div-lt-iff-lt-mul {y = 2 * A} (omega (arith, a)) .1 h)) inner-slot
 
   pub spot-at-within : Within A (spotAt A i)
-  unfolding spotAt
   spot-at-within = record { column-ok = mod-lt (i % (3 * A)) a; row-ok = mod-lt (i / (3 * A)) a }
 
   pub index-of-spot : indexInSlot A (slotAt A i) (spotAt A i) ≡ i
-  unfolding indexInSlot slotAt spotAt
+  unfolding indexInSlot
   index-of-spot = rw (
     digits-div (i / (3 * A) / A) inner-slot,
     digits-mod (i / (3 * A) / A) inner-slot,
@@ -170,6 +186,12 @@ unfoldable pub placeBySlot : ℕ → List ℕ → ℕ → Place
 placeBySlot A L i =
     let s = quarterTurns A (4 - quarterTurnsIn L (slotAt A i)) (spotAt A i) in
     place (faceIn L (slotAt A i)) (s .column) (s .row)
+
+-- a place has the index of its spot, turned, in the slot of its face
+pub index-is : (A : ℕ) (L : List ℕ) (f m n : ℕ)
+    → indexInSlot A (slotOf L f) (quarterTurns A (quarterTurnsIn L (slotOf L f)) (spot m n)) ≡ index A L (place f m n)
+unfolding index
+index-is A L f m n = refl
 
 module _ (A : ℕ) (L : List ℕ) (o : LayoutHolds L) where
   pub index-ok : (P : Place) → IsPlace A P → index A L P < planeSamples A
@@ -243,6 +265,12 @@ module _ (A : ℕ) (L : List ℕ) (o : LayoutHolds L) where
   -- and so it is the place by slots
   pub placeAt-bySlot : (i : ℕ) → i < planeSamples A → placeAt A L i ≡ placeBySlot A L i
   placeAt-bySlot i h = index-apart (placeAt A L i) (placeBySlot A L i) (placeAt-ok i h) (bySlot-ok i h) (index-placeAt i h ∙ sym (index-bySlot i h))
+
+  -- a place with the face of the slot at the index, and its spot there turned back, is it
+  pub placeAt-is : (P : Place) (i : ℕ) → i < planeSamples A → P .face ≡ faceIn L (slotAt A i)
+      → spot (P .column) (P .row) ≡ quarterTurns A (4 - quarterTurnsIn L (slotAt A i)) (spotAt A i) → P ≡ placeAt A L i
+  unfolding placeBySlot
+  placeAt-is P i h e s = place-eq e (ap (λ t. t .column) s) (ap (λ t. t .row) s) ∙ sym (placeAt-bySlot i h)
 
 -- ---- "The rows of a face whose turn is 0 lie unbroken in the frame": each column is at the row's first index and the column
 

@@ -167,6 +167,12 @@ in-range-shifted A t g =
     ∙ solve (pos (p .0) ∷ pos (w .0) ∷ []) (var 0 ⊝ con (pos 32) ⊕ var 1 ⊕ con (pos 32)) (var 0 ⊕ var 1) tt) in
     record { shift = p .0; is = e; bounded = omega arith }
 
+-- T fits in 16 bits
+pub in-range-small : (A : ℕ) (t : ℤ) → A ≤ 512 → InRange A t → natAbs t ≤ 32768
+in-range-small A t h g =
+    let w = in-range-shifted A t g in
+    subst (λ z. natAbs z ≤ 32768) (sym (w .is)) (difference-small (w .shift) 32 32768 (omega (arith, w .bounded)) (omega arith))
+
 -- so whatever T is written as, T + 32 is at most 64A
 pub position-fits : (format : Format) (A : ℕ) (x : ℤ) (d q : ℕ) → natAbs x ≤ d → 0 < d → position64 format A x d ≡ pos q -ℤ pos 32 → q ≤ 64 * A
 position-fits format A x d q h p e =

@@ -15,13 +15,13 @@ use Rattle.arithmetic.specs.Integers.{floorDiv, natural}
 use Rattle.arithmetic.proofs.Tests.{cond-true, cond-false}
 use Rattle.arithmetic.proofs.Ring.{Expr, var, con, _⊕_, _⊗_, _⊝_, ⊖, solve}
 use Rattle.arithmetic.proofs.Order.{le-intro, lt-intro}
-use Rattle.arithmetic.proofs.Floors.{remainder, remainder-below, floor-split}
+use Rattle.arithmetic.proofs.Floors.{remainder, remainder-below, floor-split, floor-times}
 use Rattle.cubemap.specs.declared.Located.{Located}
 use Rattle.cubemap.specs.declared.Place.{Place}
 use Rattle.cubemap.specs.declared.Sampler.{Sampler}
 use Rattle.cubemap.specs.Frames.{place, IsPlace}
 use Rattle.cubemap.specs.Samplers.{nearestColumn, nearestPlace, base, phase, tapAt, tapPlace, tapWeight, overTaps, cubicSum}
-use Rattle.cubemap.specs.Samplers.{rounded, clippedTo, sampleFrom}
+use Rattle.cubemap.specs.Samplers.{rounded, clip, clippedTo, sampleFrom}
 use Rattle.cubemap.proofs.Rounding.{rounded-near}
 use Rattle.cubemap.proofs.Positions.{InRange, Shifted, in-range-shifted}
 use Rattle.cubemap.proofs.Locate.{OnFace, middleOf}
@@ -36,7 +36,7 @@ pub record NearestTo (A : ℕ) (t : ℤ) (c : ℕ) : Type 0 where
   pub high : (t <ℤ (pos (64 * c) +ℤ pos 32)) ⊎ ((suc c ≡ A) × (t ≡ pos (64 * c) +ℤ pos 32))
 
 -- nearestColumn, of t = q − 32
-nearest-shifted : (A q : ℕ) (t : ℤ) → t ≡ pos q -ℤ pos 32 → nearestColumn A t ≡ cond (eqb (q / 64) A) (A - 1) (q / 64)
+pub nearest-shifted : (A q : ℕ) (t : ℤ) → t ≡ pos q -ℤ pos 32 → nearestColumn A t ≡ cond (eqb (q / 64) A) (A - 1) (q / 64)
 unfolding nearestColumn
 nearest-shifted A q t e =
     ap (λ z. cond (eqb (natural (floorDiv z 64)) A) (A - 1) (natural (floorDiv z 64))) (ap (λ z. z +ℤ pos 32) e ∙ -ℤ-+ℤ-cancel (pos q) (pos 32))
@@ -94,6 +94,10 @@ nearest-is A t h g = go (in-range-shifted A t g)
               high = inl (from-high (q / 64) (omega arith));
             })
 
+pub nearestPlace-columns : (A : ℕ) (p : Located) → place (p .face) (nearestColumn A (p .column)) (nearestColumn A (p .row)) ≡ nearestPlace A p
+unfolding nearestPlace
+nearestPlace-columns A p = refl
+
 pub nearestPlace-ok : (A : ℕ) (p : Located) → 1 ≤ A → OnFace A p → IsPlace A (nearestPlace A p)
 unfolding nearestPlace
 nearestPlace-ok A p h g = record {
@@ -125,6 +129,18 @@ phase-is t = record {
       ∙ solve (floorDiv t 64 ∷ pos (remainder t 64) ∷ []) (var 0 ⊗ con (pos 64) ⊕ var 1 ⊝ con (pos 64) ⊗ var 0) (var 1) tt;
   below = remainder-below t 64 (omega arith);
 }
+
+pub phase-split : (t : ℤ) → phase t ≡ t -ℤ pos 64 *ℤ floorDiv t 64
+unfolding phase base
+phase-split t = refl
+
+-- the first tap, and each tap from it
+pub first-tap : (t : ℤ) → tapAt t 0 ≡ floorDiv t 64 -ℤ pos 1
+unfolding base
+first-tap t = solve (floorDiv t 64 ∷ []) (var 0 ⊕ con (pos 0) ⊝ con (pos 1)) (var 0 ⊝ con (pos 1)) tt
+
+pub tap-from-first : (t : ℤ) (i : ℕ) → tapAt t i ≡ tapAt t 0 +ℤ pos i
+tap-from-first t i = solve (base t ∷ pos i ∷ []) (var 0 ⊕ var 1 ⊝ con (pos 1)) (var 0 ⊕ con (pos 0) ⊝ con (pos 1) ⊕ var 1) tt
 
 -- "each phase adding to 524,288"
 pub weights-add : (k : ℤ) → overTaps (λ i. tapWeight i k) ≡ pos 524288
@@ -190,6 +206,28 @@ weighted-flat w u x =
 weighted-one : (w : ℕ → ℤ) (s : ℕ → ℕ → ℕ) → OneTap w → weighted w w s ≡ pos (2 ^ 38 * s 1 1)
 weighted-one w s o = rw (o .tap0, o .tap1, o .tap2, o .tap3) (ap pos (omega arith))
 
+-- the sum row by row: the weight of a row comes out
+pub sum-by-rows : (A : ℕ) (sample : Place → ℕ) (p : Located)
+    → cubicSum A sample p
+    ≡ overTaps (λ j. tapWeight j (phase (p .row)) *ℤ overTaps (λ i.
+    tapWeight i (phase (p .column)) *ℤ pos (sample (tapPlace A (p .face) (tapAt (p .column) i) (tapAt (p .row) j)))))
+unfolding cubicSum
+sum-by-rows A sample p = λ k. row 0 k +ℤ row 1 k +ℤ row 2 k +ℤ row 3 k
+  where
+    w : ℕ → ℤ
+    w j = tapWeight j (phase (p .row))
+
+    u : ℕ → ℤ
+    u i = tapWeight i (phase (p .column))
+
+    s : ℕ → ℕ → ℤ
+    s j i = pos (sample (tapPlace A (p .face) (tapAt (p .column) i) (tapAt (p .row) j)))
+
+    row : (j : ℕ) → overTaps (λ i. w j *ℤ u i *ℤ s j i) ≡ w j *ℤ overTaps (λ i. u i *ℤ s j i)
+    row j = solve (w j ∷ u 0 ∷ u 1 ∷ u 2 ∷ u 3 ∷ s j 0 ∷ s j 1 ∷ s j 2 ∷ s j 3 ∷ [])
+        (var 0 ⊗ var 1 ⊗ var 5 ⊕ var 0 ⊗ var 2 ⊗ var 6 ⊕ var 0 ⊗ var 3 ⊗ var 7 ⊕ var 0 ⊗ var 4 ⊗ var 8)
+        (var 0 ⊗ (var 1 ⊗ var 5 ⊕ var 2 ⊗ var 6 ⊕ var 3 ⊗ var 7 ⊕ var 4 ⊗ var 8)) tt
+
 -- ---- rounding and clipping a sum
 
 pub rounded-whole : (x : ℕ) → rounded (pos (2 ^ 38 * x)) ≡ pos x
@@ -200,11 +238,28 @@ rounded-whole x = rounded-near (pos (2 ^ 38 * x)) (2 ^ 38) (pos x)
     none : pos (2 ^ 38 * x) -ℤ pos x *ℤ pos (2 ^ 38) ≡ pos 0
     none = solve (pos x ∷ []) (con (pos (2 ^ 38)) ⊗ var 0 ⊝ var 0 ⊗ con (pos (2 ^ 38))) (con (pos 0)) tt
 
+-- half of the divisor added, and rounded down
+pub rounded-floor : (sum : ℤ) → rounded sum ≡ floorDiv (sum +ℤ pos (2 ^ 37)) (2 ^ 38)
+unfolding rounded
+rounded-floor sum =
+    ap (λ z. floorDiv z (2 * 2 ^ 38))
+    (solve (sum ∷ []) (con (pos 2) ⊗ var 0 ⊕ con (pos (2 ^ 38))) (con (pos 2) ⊗ (var 0 ⊕ con (pos (2 ^ 37)))) tt)
+    ∙ floor-times 2 (2 ^ 38) (sum +ℤ pos (2 ^ 37)) (omega arith)
+
 -- a sum of 2^38 times a sample within the depth gives the sample
 whole-value : (D x : ℕ) (sum : ℤ) → x < 2 ^ D → sum ≡ pos (2 ^ 38 * x) → clippedTo D (rounded sum) ≡ x
 whole-value D x sum h e = ap (λ z. clippedTo D (rounded z)) e ∙ ap (clippedTo D) (rounded-whole x) ∙ clip-inside (2 ^ D) x h
 
 -- ---- what a sampler reads
+
+pub nearest-value : (A D : ℕ) (sample : Place → ℕ) (p : Located) → sample (nearestPlace A p) ≡ sampleFrom Sampler.Nearest A D sample p
+unfolding sampleFrom
+nearest-value A D sample p = refl
+
+pub cubic-value : (A D : ℕ) (sample : Place → ℕ) (p : Located)
+    → clip (2 ^ D) (rounded (cubicSum A sample p)) ≡ sampleFrom Sampler.Cubic A D sample p
+unfolding sampleFrom
+cubic-value A D sample p = refl
 
 -- the place that tap (i, j) of a sampler reads: for nearest all taps are one
 abbrev pub tappedPlace : Sampler → ℕ → Located → ℕ → ℕ → Place

@@ -5,6 +5,7 @@ use Prim.Native.Nat.{ℕ, zero, suc, _+_, _*_, _-_, _/_, _%_, _^_, _<_}
 use lib.Dec.{ltb, eqb}
 use lib.ListN.{getD}
 use Rattle.arithmetic.specs.Searches.{lowest}
+use Rattle.cubemap.specs.declared.Layout.{Layout}
 use Rattle.cubemap.specs.declared.Place.{Place}
 use Rattle.cubemap.specs.declared.Shape.{Shape}
 use Rattle.cubemap.specs.Interface.{littleEndian}
@@ -62,6 +63,10 @@ faceIn L slot = getD L slot 0
 
 abbrev pub quarterTurnsIn : List ℕ → ℕ → ℕ
 quarterTurnsIn L slot = getD L (6 + slot) 0
+
+-- the bytes of a layout that has been taken apart
+abbrev pub layoutBytes : Layout → List ℕ
+layoutBytes l = l .faces ++ l .turns
 
 -- the slot that holds the face f
 unfoldable pub slotOf : List ℕ → ℕ → ℕ

@@ -26,6 +26,12 @@ pub struct Place {
     pub row: u64,
 }
 
+// A layout of 12 bytes taken apart: the faces of the six slots, and their counts of clockwise quarter turns.
+pub struct Layout {
+    pub faces: [u8; 6],
+    pub turns: [u8; 6],
+}
+
 // A ray. X points to the front, Y to the top, Z to the right.
 pub struct Ray {
     pub x: i64,

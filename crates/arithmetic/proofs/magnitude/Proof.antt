@@ -1,18 +1,17 @@
 -- `magnitude` meets its contract: below zero, x + 1 is minus one less than the size, so no step overflows.
 use mathlib.Core.Path.{_≡_, sym, _∙_, ap, subst}
-use mathlib.Core.Bool.{false}
 use Prim.Native.Nat.{ℕ, _+_}
 use native.Mathlib.Nat.{le-of-eq}
 use native.Mathlib.Omega.{arith}
 use lib.Dec.{T}
 use lib.IntN.{ℤ, pos, negℤ, natAbs, _-ℤ_, _+ℤ_, +ℤ-idl, negℤ-negℤ}
-use lib.Signed.{nonNeg, ltZ, natAbs-le}
+use lib.Signed.{nonNeg}
 use borrow.Author.Needs.{needs}
 use mir.Syntax.{w64}
 use mir.Val.{SFits, Fits, ofZ, toZ}
 use mir.Facts.{toZ-ofZ}
 use Rattle.arithmetic.proofs.Sizes.{natAbs-neg}
-use Rattle.arithmetic.proofs.Held.{sfits, BelowZero, below-zero-is, not-below-zero}
+use Rattle.arithmetic.proofs.Held.{sfits, BelowZero, below-zero-is, cast-not-below}
 use Rattle.arithmetic.proofs.magnitude.Statement.{statement}
 use Rattle.arithmetic.proofs.magnitude.Tie as tie
 use Rattle.arithmetic.proofs.magnitude.Reads as reads
@@ -60,11 +59,7 @@ add-result-2 c =
     subst (λ z. Fits w64 (natAbs z + 1)) (sym (cast c)) (record { fits = omega arith })
 
 cast-result-2 : tie.Need-cast-result-2
-cast-result-2 c =
-    let e = toZ-ofZ (c .before .fits .x) in
-    let h = natAbs-le (c .before .args .x) (c .before .fits .x .sfits) in
-    subst (λ z. T (nonNeg z) × Fits w64 (natAbs z)) (sym e)
-    (not-below-zero (c .before .args .x) (subst (λ z. ltZ z (pos 0) ≡ false) e (c .if1 .left)), record { fits = omega arith })
+cast-result-2 c = cast-not-below (c .before .args .x) (c .before .fits .x) (c .if1 .left)
 
 returns : tie.Need-returns
 returns c = ap (λ z. natAbs z + 1) (cast c) ∙ sym (below c .is)

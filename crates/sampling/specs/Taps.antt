@@ -1,0 +1,48 @@
+-- Sixteen taps, row by row: what the functions of this crate hand on to each other.
+use mathlib.Core.Path.{_≡_}
+use mathlib.Core.Bool.{Bool, false}
+use mathlib.Core.List.{List}
+use Prim.Native.Nat.{ℕ, _+_, _*_, _≤_, _<_}
+use lib.Dec.{ltb}
+use lib.IntN.{ℤ, pos, negsuc, natAbs, _+ℤ_, _*ℤ_}
+use lib.ListN.{getD}
+use Rattle.cubemap.specs.declared.Place.{Place}
+use Rattle.cubemap.specs.Samplers.{tapPlace, tapWeight, overTaps}
+use Rattle.sampling.specs.declared.Weights.{Weights}
+
+-- a table of the tap weights, phases 0 to 63: "The 256 weights stand as a table .. each phase adding to 524,288"
+pub record IsWeights (table : List ℤ) : Type 0 where
+  pub polynomial : (k i : ℕ) → k < 64 → i < 4 → getD table (k * 4 + i) (pos 0) ≡ tapWeight i (pos k)
+  pub adds : (k : ℕ) → k < 64 → overTaps (λ i. getD table (k * 4 + i) (pos 0)) ≡ pos 524288
+  pub small : (k i : ℕ) → k < 64 → i < 4 → natAbs (getD table (k * 4 + i) (pos 0)) ≤ 524288
+
+-- the weights of the four taps at phase k
+abbrev pub weightsOf : ℤ → Weights
+weightsOf k = record { w0 = tapWeight 0 k; w1 = tapWeight 1 k; w2 = tapWeight 2 k; w3 = tapWeight 3 k }
+
+-- no weight exceeds 2^19
+pub record Small (w : Weights) : Type 0 where
+  pub s0 : natAbs (w .w0) ≤ 524288
+  pub s1 : natAbs (w .w1) ≤ 524288
+  pub s2 : natAbs (w .w2) ≤ 524288
+  pub s3 : natAbs (w .w3) ≤ 524288
+
+-- four numbers by their weights
+abbrev pub weighed : Weights → ℤ → ℤ → ℤ → ℤ → ℤ
+weighed w a b c d = w .w0 *ℤ a +ℤ w .w1 *ℤ b +ℤ w .w2 *ℤ c +ℤ w .w3 *ℤ d
+
+-- a row of four samples by its weights, and four such rows by theirs
+abbrev pub rowSum : Weights → (ℕ → ℕ) → ℤ
+rowSum u s = weighed u (pos (s 0)) (pos (s 1)) (pos (s 2)) (pos (s 3))
+
+abbrev pub gridSum : Weights → Weights → (ℕ → ℕ → ℕ) → ℤ
+gridSum w u s = weighed w (rowSum u (s 0)) (rowSum u (s 1)) (rowSum u (s 2)) (rowSum u (s 3))
+
+-- what the sixteen taps from a column x and a row y on read: tap i of row j
+abbrev pub tapped : (Place → ℕ) → ℕ → ℕ → ℤ → ℤ → ℕ → ℕ → ℕ
+tapped sample A f x y j i = sample (tapPlace A f (x +ℤ pos i) (y +ℤ pos j))
+
+-- four columns, or rows, from this one on are inside a face of size A
+abbrev pub inFace : ℕ → ℤ → Bool
+inFace A (pos m) = ltb (m + 3) A
+inFace A (negsuc m) = false

@@ -1,0 +1,415 @@
+// The two samplers: the value at a position of a face, nearest or cubic.
+ghost use mathlib.Core.Path.{_≡_};
+ghost use Prim.Native.Nat.{_+_, _*_, _^_, _≤_, _<_};
+ghost use lib.Dec.{T};
+ghost use lib.IntN.{pos, natAbs, _+ℤ_};
+ghost use lib.ListN.{length};
+ghost use Rattle.cubemap.specs.Frames.{IsPlace, sampleAt};
+ghost use Rattle.cubemap.specs.Checks.{depthOK};
+ghost use Rattle.cubemap.specs.Samplers.{nearestColumn, nearestPlace, tapAt, tapPlace, cubicSum, sampleFrom};
+ghost use Rattle.cubemap.specs.Samplers as paper;
+ghost use Rattle.cubemap.proofs.Positions.{InRange};
+ghost use Rattle.cubemap.proofs.Locate.{OnFace};
+ghost use Rattle.frame.specs.Steps.{SteppedFace, SteppedPlane, sampleBySteps, sampleBy};
+ghost use Rattle.sampling.specs.Taps.{IsWeights, weightsOf, Small, weighed, rowSum, gridSum, tapped, inFace};
+
+mod table;
+
+use cubemap::Located;
+use cubemap::Place;
+use cubemap::Sampler;
+use frame::FaceSteps;
+
+// ---- nearest
+
+// The column, or row, that is nearest to a position.
+fn nearest_column(size: u64, t: i64) -> u64
+    requires { ⌜ (1 ≤ size) × (size ≤ 512) × InRange size t ⌝ }
+    ensures { λ r. ⌜ r ≡ nearestColumn size t ⌝ }
+{
+    let column = (t + 32) as u64 / 64;
+    if column == size { size - 1 } else { column }
+}
+
+// The sample at the nearest place.
+pub fn nearest(plane: &[u8], size: u64, steps: &[i64; 18], p: Located) -> u64
+    requires { ⌜ SteppedPlane size (now plane) (now steps) × OnFace size p ⌝ }
+    ensures { λ r. ⌜ (r ≡ sampleBy (now (plane .entry)) (now (steps .entry)) (nearestPlace size p)) × (r < 65536) ⌝ }
+{
+    let face = p.face;
+    let column = nearest_column(size, p.column);
+    let row = nearest_column(size, p.row);
+    frame::sample_by(
+        plane,
+        size,
+        steps,
+        Place {
+            face: face,
+            column: column,
+            row: row,
+        },
+    )
+}
+
+// ---- the weights of taps
+
+// The table of tap weights, made once a call and lent from there: a constant that is read by an index would be made anew each time.
+pub fn tap_weights() -> [i64; 256]
+    ensures { λ r. ⌜ IsWeights r ⌝ }
+{
+    table::WEIGHTS
+}
+
+// The weights of four taps.
+pub struct Weights {
+    pub w0: i64,
+    pub w1: i64,
+    pub w2: i64,
+    pub w3: i64,
+}
+
+// The phase of a position.
+fn phase_of(t: i64) -> u64
+    requires { ⌜ natAbs t ≤ 32768 ⌝ }
+    ensures { λ r. ⌜ (pos r ≡ paper.phase t) × (r < 64) ⌝ }
+{
+    (t - 64 * (t >> 6)) as u64
+}
+
+// The weights at a phase.
+fn weights_of(table: &[i64; 256], phase: u64) -> Weights
+    requires { ⌜ IsWeights (now table) × (phase < 64) ⌝ }
+    ensures { λ r. ⌜ (r ≡ weightsOf (pos phase)) × Small r ⌝ }
+{
+    let at = phase as usize * 4;
+    let w0 = table[at];
+    let w1 = table[at + 1];
+    let w2 = table[at + 2];
+    let w3 = table[at + 3];
+    Weights {
+        w0: w0,
+        w1: w1,
+        w2: w2,
+        w3: w3,
+    }
+}
+
+// The weights at a position.
+fn weights_at(table: &[i64; 256], t: i64) -> Weights
+    requires { ⌜ IsWeights (now table) × (natAbs t ≤ 32768) ⌝ }
+    ensures { λ r. ⌜ (r ≡ weightsOf (paper.phase t)) × Small r ⌝ }
+{
+    weights_of(table, phase_of(t))
+}
+
+// Four numbers by their weights.
+fn weigh(w: Weights, a: i64, b: i64, c: i64, d: i64) -> i64
+    requires { ⌜ Small w ⌝ }
+    requires { ⌜ (natAbs a ≤ 2 ^ 37) × (natAbs b ≤ 2 ^ 37) × (natAbs c ≤ 2 ^ 37) × (natAbs d ≤ 2 ^ 37) ⌝ }
+    ensures { λ r. ⌜ (r ≡ weighed w a b c d) × (natAbs r ≤ 2 ^ 58) ⌝ }
+{
+    let w0 = w.w0;
+    let w1 = w.w1;
+    let w2 = w.w2;
+    let w3 = w.w3;
+    w0 * a + w1 * b + w2 * c + w3 * d
+}
+
+// Four samples by their weights.
+fn weigh_samples(w: Weights, a: u64, b: u64, c: u64, d: u64) -> i64
+    requires { ⌜ Small w × (a < 65536) × (b < 65536) × (c < 65536) × (d < 65536) ⌝ }
+    ensures { λ r. ⌜ (r ≡ weighed w (pos a) (pos b) (pos c) (pos d)) × (natAbs r ≤ 2 ^ 37) ⌝ }
+{
+    weigh(w, a as i64, b as i64, c as i64, d as i64)
+}
+
+// ---- sixteen taps inside the face
+
+// Four taps of a row, given from its first sample on.
+fn taps_of_row(row: &[u8], column: u64, u: Weights) -> i64
+    requires { ⌜ Small u × (column < 512) × (2 * (column + 3) + 1 < length (now row)) ⌝ }
+    ensures { λ r. ⌜ (r ≡ rowSum u (λ i. sampleAt (now (row .entry)) (column + i))) × (natAbs r ≤ 2 ^ 37) ⌝ }
+{
+    let at = column as usize;
+    let a = frame::sample(row, at);
+    let b = frame::sample(row, at + 1);
+    let c = frame::sample(row, at + 2);
+    let d = frame::sample(row, at + 3);
+    weigh_samples(u, a, b, c, d)
+}
+
+// Four taps of a row of a face that is not turned: the row lies unbroken, and is handed on as a part of the plane.
+fn row_by_part(plane: &[u8], size: u64, steps: FaceSteps, column: u64, row: u64, u: Weights) -> i64
+    requires { ⌜ Small u × SteppedFace size (now plane) steps × (column + 3 < size) × (row < size) × (steps .across ≡ pos 1) ⌝ }
+    ensures { λ r. ⌜ (r ≡ rowSum u (λ i. sampleBySteps (now (plane .entry)) steps (column + i) row)) × (natAbs r ≤ 2 ^ 37) ⌝ }
+{
+    let from = 2 * (frame::step_to(steps, 0, row) as usize);
+    let to = from + 2 * (size as usize);
+    taps_of_row(&plane[from..to], column, u)
+}
+
+// Four taps of a row of any face.
+fn row_by_steps(plane: &[u8], size: u64, steps: FaceSteps, column: u64, row: u64, u: Weights) -> i64
+    requires { ⌜ Small u × SteppedFace size (now plane) steps × (column + 3 < size) × (row < size) ⌝ }
+    ensures { λ r. ⌜ (r ≡ rowSum u (λ i. sampleBySteps (now (plane .entry)) steps (column + i) row)) × (natAbs r ≤ 2 ^ 37) ⌝ }
+{
+    let a = frame::sample_by_steps(plane, size, steps, column, row);
+    let b = frame::sample_by_steps(plane, size, steps, column + 1, row);
+    let c = frame::sample_by_steps(plane, size, steps, column + 2, row);
+    let d = frame::sample_by_steps(plane, size, steps, column + 3, row);
+    weigh_samples(u, a, b, c, d)
+}
+
+// Four rows of four taps of a face that is not turned.
+fn sum_by_parts(
+    plane: &[u8],
+    size: u64,
+    steps: FaceSteps,
+    column: u64,
+    row: u64,
+    u: Weights,
+    w: Weights,
+) -> i64
+    requires { ⌜ Small u × Small w × SteppedFace size (now plane) steps × (column + 3 < size) × (row + 3 < size) × (steps .across ≡ pos 1) ⌝ }
+    ensures { λ r. ⌜ (r ≡ gridSum w u (λ j i. sampleBySteps (now (plane .entry)) steps (column + i) (row + j))) × (natAbs r ≤ 2 ^ 58) ⌝ }
+{
+    let a = row_by_part(plane, size, steps, column, row, u);
+    let b = row_by_part(plane, size, steps, column, row + 1, u);
+    let c = row_by_part(plane, size, steps, column, row + 2, u);
+    let d = row_by_part(plane, size, steps, column, row + 3, u);
+    weigh(w, a, b, c, d)
+}
+
+// Four rows of four taps of any face.
+fn sum_by_steps(
+    plane: &[u8],
+    size: u64,
+    steps: FaceSteps,
+    column: u64,
+    row: u64,
+    u: Weights,
+    w: Weights,
+) -> i64
+    requires { ⌜ Small u × Small w × SteppedFace size (now plane) steps × (column + 3 < size) × (row + 3 < size) ⌝ }
+    ensures { λ r. ⌜ (r ≡ gridSum w u (λ j i. sampleBySteps (now (plane .entry)) steps (column + i) (row + j))) × (natAbs r ≤ 2 ^ 58) ⌝ }
+{
+    let a = row_by_steps(plane, size, steps, column, row, u);
+    let b = row_by_steps(plane, size, steps, column, row + 1, u);
+    let c = row_by_steps(plane, size, steps, column, row + 2, u);
+    let d = row_by_steps(plane, size, steps, column, row + 3, u);
+    weigh(w, a, b, c, d)
+}
+
+// Four rows of four taps inside a face. A step across of 1 is that of a face that is not turned.
+fn sum_inside(
+    plane: &[u8],
+    size: u64,
+    steps: FaceSteps,
+    column: u64,
+    row: u64,
+    u: Weights,
+    w: Weights,
+) -> i64
+    requires { ⌜ Small u × Small w × SteppedFace size (now plane) steps × (column + 3 < size) × (row + 3 < size) ⌝ }
+    ensures { λ r. ⌜ (r ≡ gridSum w u (λ j i. sampleBySteps (now (plane .entry)) steps (column + i) (row + j))) × (natAbs r ≤ 2 ^ 58) ⌝ }
+{
+    let across = steps.across;
+    if across == 1 {
+        sum_by_parts(plane, size, steps, column, row, u, w)
+    } else {
+        sum_by_steps(plane, size, steps, column, row, u, w)
+    }
+}
+
+// ---- sixteen taps at the rim
+
+// A number clipped to 0..n−1.
+fn clip(n: u64, z: i64) -> u64
+    requires { ⌜ 1 ≤ n ⌝ }
+    ensures { λ r. ⌜ (r ≡ paper.clip n z) × (r < n) ⌝ }
+{
+    if z < 0 {
+        return 0;
+    }
+    let m = z as u64;
+    if m < n { m } else { n - 1 }
+}
+
+// The place that a tap reads.
+fn tap_place(size: u64, face: u64, column: i64, row: i64) -> Place
+    requires { ⌜ (1 ≤ size) × (face < 6) ⌝ }
+    ensures { λ r. ⌜ (r ≡ tapPlace size face column row) × IsPlace size r ⌝ }
+{
+    let m = clip(size, column);
+    let n = clip(size, row);
+    Place {
+        face: face,
+        column: m,
+        row: n,
+    }
+}
+
+// The sample that a tap reads.
+fn tap(plane: &[u8], size: u64, steps: &[i64; 18], face: u64, column: i64, row: i64) -> u64
+    requires { ⌜ SteppedPlane size (now plane) (now steps) × (face < 6) ⌝ }
+    ensures { λ r. ⌜ (r ≡ sampleBy (now (plane .entry)) (now (steps .entry)) (tapPlace size face column row)) × (r < 65536) ⌝ }
+{
+    frame::sample_by(plane, size, steps, tap_place(size, face, column, row))
+}
+
+// Four taps of a row, each by its place.
+fn row_by_places(
+    plane: &[u8],
+    size: u64,
+    steps: &[i64; 18],
+    face: u64,
+    column: i64,
+    row: i64,
+    u: Weights,
+) -> i64
+    requires { ⌜ Small u × SteppedPlane size (now plane) (now steps) × (face < 6) × (natAbs column ≤ 65536) ⌝ }
+    ensures { λ r. ⌜ (r ≡ rowSum u (λ i. sampleBy (now (plane .entry)) (now (steps .entry)) (tapPlace size face (column +ℤ pos i) row)))
+        × (natAbs r ≤ 2 ^ 37) ⌝ }
+{
+    let a = tap(plane, size, steps, face, column, row);
+    let b = tap(plane, size, steps, face, column + 1, row);
+    let c = tap(plane, size, steps, face, column + 2, row);
+    let d = tap(plane, size, steps, face, column + 3, row);
+    weigh_samples(u, a, b, c, d)
+}
+
+// Four rows of four taps, each by its place.
+fn sum_by_places(
+    plane: &[u8],
+    size: u64,
+    steps: &[i64; 18],
+    face: u64,
+    column: i64,
+    row: i64,
+    u: Weights,
+    w: Weights,
+) -> i64
+    requires { ⌜ Small u × Small w × SteppedPlane size (now plane) (now steps) × (face < 6) ⌝ }
+    requires { ⌜ (natAbs column ≤ 65536) × (natAbs row ≤ 65536) ⌝ }
+    ensures { λ r. ⌜ (r ≡ gridSum w u (tapped (sampleBy (now (plane .entry)) (now (steps .entry))) size face column row)) × (natAbs r ≤ 2 ^ 58) ⌝ }
+{
+    let a = row_by_places(plane, size, steps, face, column, row, u);
+    let b = row_by_places(plane, size, steps, face, column, row + 1, u);
+    let c = row_by_places(plane, size, steps, face, column, row + 2, u);
+    let d = row_by_places(plane, size, steps, face, column, row + 3, u);
+    weigh(w, a, b, c, d)
+}
+
+// ---- cubic
+
+// The column, or row, of the first of four taps.
+fn first_tap(t: i64) -> i64
+    requires { ⌜ natAbs t ≤ 32768 ⌝ }
+    ensures { λ r. ⌜ (r ≡ tapAt t 0) × (natAbs r ≤ 65536) ⌝ }
+{
+    (t >> 6) - 1
+}
+
+// Are four columns, or rows, from this one on inside the face?
+fn in_face(size: u64, first: i64) -> bool
+    requires { ⌜ (size ≤ 512) × (natAbs first ≤ 65536) ⌝ }
+    ensures { λ r. ⌜ r ≡ inFace size first ⌝ }
+{
+    (0 <= first) & (first + 3 < size as i64)
+}
+
+// Four rows of four taps from this column and row on, inside the face or at its rim.
+fn sum_from(
+    plane: &[u8],
+    size: u64,
+    steps: &[i64; 18],
+    face: u64,
+    column: i64,
+    row: i64,
+    u: Weights,
+    w: Weights,
+) -> i64
+    requires { ⌜ Small u × Small w × SteppedPlane size (now plane) (now steps) × (face < 6) ⌝ }
+    requires { ⌜ (natAbs column ≤ 65536) × (natAbs row ≤ 65536) ⌝ }
+    ensures { λ r. ⌜ (r ≡ gridSum w u (tapped (sampleBy (now (plane .entry)) (now (steps .entry))) size face column row)) × (natAbs r ≤ 2 ^ 58) ⌝ }
+{
+    if in_face(size, column) & in_face(size, row) {
+        sum_inside(
+            plane,
+            size,
+            frame::steps_at(steps, face),
+            column as u64,
+            row as u64,
+            u,
+            w,
+        )
+    } else {
+        sum_by_places(plane, size, steps, face, column, row, u, w)
+    }
+}
+
+// The sum over sixteen taps.
+fn cubic_sum(plane: &[u8], size: u64, steps: &[i64; 18], weights: &[i64; 256], p: Located) -> i64
+    requires { ⌜ SteppedPlane size (now plane) (now steps) × OnFace size p × IsWeights (now weights) ⌝ }
+    ensures { λ r. ⌜ (r ≡ cubicSum size (sampleBy (now (plane .entry)) (now (steps .entry))) p) × (natAbs r ≤ 2 ^ 58) ⌝ }
+{
+    let face = p.face;
+    let column = p.column;
+    let row = p.row;
+    let u = weights_at(weights, column);
+    let w = weights_at(weights, row);
+    sum_from(
+        plane,
+        size,
+        steps,
+        face,
+        first_tap(column),
+        first_tap(row),
+        u,
+        w,
+    )
+}
+
+// The sum divided by 2^38 and rounded.
+fn rounded(sum: i64) -> i64
+    requires { ⌜ natAbs sum ≤ 2 ^ 58 ⌝ }
+    ensures { λ r. ⌜ r ≡ paper.rounded sum ⌝ }
+{
+    (sum + 137438953472) >> 38
+}
+
+// The cubic value at a position.
+pub fn cubic(
+    plane: &[u8],
+    size: u64,
+    steps: &[i64; 18],
+    weights: &[i64; 256],
+    depth: u64,
+    p: Located,
+) -> u64
+    requires { ⌜ SteppedPlane size (now plane) (now steps) × OnFace size p × IsWeights (now weights) × T (depthOK depth) ⌝ }
+    ensures { λ r. ⌜ (r ≡ sampleFrom Sampler.Cubic size depth (sampleBy (now (plane .entry)) (now (steps .entry))) p) × (r < 65536) ⌝ }
+{
+    let sum = cubic_sum(plane, size, steps, weights, p);
+    let value = rounded(sum);
+    clip(frame::sample_bound(depth), value)
+}
+
+// ---- the value that a sampler gives at a position of a face
+pub fn sample_from(
+    sampler: Sampler,
+    plane: &[u8],
+    size: u64,
+    steps: &[i64; 18],
+    weights: &[i64; 256],
+    depth: u64,
+    p: Located,
+) -> u64
+    requires { ⌜ SteppedPlane size (now plane) (now steps) × OnFace size p × IsWeights (now weights) × T (depthOK depth) ⌝ }
+    ensures { λ r. ⌜ (r ≡ sampleFrom sampler size depth (sampleBy (now (plane .entry)) (now (steps .entry))) p) × (r < 65536) ⌝ }
+{
+    match sampler {
+        Sampler::Nearest => nearest(plane, size, steps, p),
+        Sampler::Cubic => cubic(plane, size, steps, weights, depth, p),
+    }
+}
