@@ -4,6 +4,10 @@
 # One step after the other, in the order in which a target names them.
 .NOTPARALLEL:
 
+# One prover more than there are processors, up to the toolchain's own four: each waits now and then.
+RT_JOBS ?= $(shell n=$$(nproc); echo $$((n < 4 ? n + 1 : 4)))
+export RT_JOBS
+
 CC = cc
 CFLAGS = -std=c11 -Wall -Wextra -Werror -pedantic -O2
 CARGO = CARGO_TARGET_DIR="$(CURDIR)/build/reference" WELCHODRYS_LIBRARY_DIR="$(CURDIR)/build" cargo

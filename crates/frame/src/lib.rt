@@ -20,6 +20,7 @@ use cubemap::Shape;
 
 // ---- samples
 
+// A byte as a number, with its bound.
 fn wide(x: u8) -> u64
     ensures { λ r. ⌜ (r ≡ x) × (r < 256) ⌝ }
 {
@@ -150,7 +151,7 @@ fn turns_ok(layout: &[u8]) -> bool
     true
 }
 
-// Question 5.
+// Question 5, of a layout of any length.
 pub fn layout_ok(layout: &[u8]) -> bool
     ensures { λ r. ⌜ r ≡ layoutOK (now (layout .entry)) ⌝ }
 {
@@ -160,7 +161,7 @@ pub fn layout_ok(layout: &[u8]) -> bool
     faces_ok(layout) & turns_ok(layout)
 }
 
-// The layout of 12 bytes.
+// The layout of 12 bytes, taken apart.
 pub fn layout_of(bytes: &[u8]) -> Layout
     requires { ⌜ length (now bytes) ≡ 12 ⌝ }
     ensures { λ r. ⌜ layoutBytes r ≡ now (bytes .entry) ⌝ }
@@ -182,7 +183,7 @@ pub fn face_in(layout: Layout, slot: u64) -> u64
     wide(faces[slot as usize])
 }
 
-// Its count of quarter turns.
+// The count of quarter turns of a slot.
 pub fn turns_in(layout: Layout, slot: u64) -> u64
     requires { ⌜ slot < 6 ⌝ }
     ensures { λ r. ⌜ r ≡ quarterTurnsIn (layoutBytes layout) slot ⌝ }
@@ -215,7 +216,7 @@ pub struct FaceSteps {
 }
 
 // The steps of the face in a slot.
-pub fn steps_in_slot(size: u64, slot: u64, turns: u64) -> FaceSteps
+fn steps_in_slot(size: u64, slot: u64, turns: u64) -> FaceSteps
     requires { ⌜ (1 ≤ size) × (size ≤ 512) × (slot < 6) × (turns < 4) ⌝ }
     ensures { λ r. ⌜ Steps size r (λ m n. indexInSlot size slot (quarterTurns size turns (spot m n))) ⌝ }
 {

@@ -74,9 +74,6 @@ pub row-of : (u : Weights) (s : ℕ → ℕ) {z : ℤ} {a b c d : ℕ} → a ≡
 row-of u s p q r t (is, small) =
     read-result tt (is ∙ (λ i. weighed u (pos (p i)) (pos (q i)) (pos (r i)) (pos (t i))), small)
 
-pub row-read : {a e : ℤ} → IsSum (2 ^ 37) a e → natAbs (read a) ≤ 2 ^ 37
-row-read p = read-result tt p .1
-
 pub sum-of : (w u : Weights) (s : ℕ → ℕ → ℕ) {z a b c d : ℤ}
     → IsSum (2 ^ 37) a (rowSum u (s 0)) → IsSum (2 ^ 37) b (rowSum u (s 1)) → IsSum (2 ^ 37) c (rowSum u (s 2)) → IsSum (2 ^ 37) d (rowSum u (s 3))
     → IsSum (2 ^ 58) z (weighed w (read a) (read b) (read c) (read d)) → IsSum (2 ^ 58) (read z) (gridSum w u s)

@@ -223,7 +223,7 @@ fn sum_inside(
 
 // ---- sixteen taps at the rim
 
-// A number clipped to 0..n−1.
+// A number clipped to 0..n−1: a tap to the face, a value to the depth.
 fn clip(n: u64, z: i64) -> u64
     requires { ⌜ 1 ≤ n ⌝ }
     ensures { λ r. ⌜ (r ≡ paper.clip n z) × (r < n) ⌝ }
@@ -370,7 +370,7 @@ fn cubic_sum(plane: &[u8], size: u64, steps: &[i64; 18], weights: &[i64; 256], p
     )
 }
 
-// The sum divided by 2^38 and rounded.
+// The sum divided by 2^38 and rounded: 2^37 is half of the divisor.
 fn rounded(sum: i64) -> i64
     requires { ⌜ natAbs sum ≤ 2 ^ 58 ⌝ }
     ensures { λ r. ⌜ r ≡ paper.rounded sum ⌝ }
@@ -395,7 +395,9 @@ pub fn cubic(
     clip(frame::sample_bound(depth), value)
 }
 
-// ---- the value that a sampler gives at a position of a face
+// ---- either sampler
+
+// The value that a sampler gives at a position of a face.
 pub fn sample_from(
     sampler: Sampler,
     plane: &[u8],
