@@ -60,7 +60,7 @@ pub fn tap_weights() -> [i64; 256]
     table::WEIGHTS
 }
 
-// The weights of four taps.
+// The weights of four taps. Below, u are those of the columns and w those of the rows.
 pub struct Weights {
     pub w0: i64,
     pub w1: i64,
