@@ -1,6 +1,6 @@
 # `make` proves the crates, builds the archive and the program `rays`, runs the C example and the program, and shows the marked cases;
-# `make test` is what .ci/run calls.
-.PHONY: all test clean tools format prove archive program example listing reference marked
+# `make test` is what .ci/run calls; `make bench` measures a conversion.
+.PHONY: all test clean tools format verdict prove archive program example listing reference conformance marked bench
 # One step after the other, in the order in which a target names them.
 .NOTPARALLEL:
 
@@ -16,10 +16,11 @@ TOOLS = awk $(firstword $(CC))
 
 all: tools prove example listing marked
 
-# The verdict comes last: `rt ci` starts from nothing, and its last line is 'N passed, M failed'.
+# `rt ci` starts from nothing, proves everything once and tries the must-fail edits; the steps behind it use what it proved. Its last line,
+# 'N passed, M failed', is printed last: where a step in between fails, it is not printed.
 test: TOOLS += cargo
-test: tools format marked reference example listing
-	@rt ci
+test: tools format marked verdict reference conformance example listing
+	@tail -n 1 build/verdict.log
 
 tools:
 	@command -v rt >/dev/null || { echo "make: the Rattle toolchain (its command rt) is not on the PATH"; exit 1; }
@@ -27,6 +28,13 @@ tools:
 
 format:
 	@rt fmt --check
+
+verdict:
+	@mkdir -p build
+	@echo "Proving every crate from nothing, and trying the must-fail edits .."
+	@{ rt ci 2>&1; echo $$? >build/verdict.status; } | tee build/verdict.log
+	@test "$$(cat build/verdict.status)" = 0
+	@echo
 
 prove:
 	@mkdir -p build
@@ -61,9 +69,9 @@ listing: program
 	@echo
 
 example: archive
-	@echo "A C program that is linked with the archive (examples/three_calls.c):"
-	@$(CC) $(CFLAGS) -Iinclude examples/three_calls.c build/libwelchodrys.a -o build/three_calls
-	@build/three_calls
+	@echo "A C program that is linked with the archive (examples/four_calls.c):"
+	@$(CC) $(CFLAGS) -Iinclude examples/four_calls.c build/libwelchodrys.a -o build/four_calls
+	@build/four_calls
 	@echo
 
 # The reference is written from the paper alone; the archive and the program are compared with it.
@@ -75,6 +83,21 @@ reference: archive program
 	@echo "The program rays compared with its stored runs (crates/rays/runs) and with the reference, byte by byte:"
 	@$(CARGO) run $(CARGO_FLAGS) --bin listing build/rays crates/rays/runs
 	@echo
+
+# What the program conformance must print is in its crate, and `rt ci` holds the program to it; here the reference is held to it.
+conformance:
+	@mkdir -p build
+	@echo "What the reference gives for the cases of the program conformance (crates/conformance/stdout), line by line:"
+	@$(CARGO) run $(CARGO_FLAGS) --bin conformance >build/conformance
+	@cmp build/conformance crates/conformance/stdout
+	@echo "$$(wc -l <build/conformance) lines, 0 differences"
+	@echo
+
+# All conversions in one program; those in double precision are compiled for speed, without a switch that changes their arithmetic.
+bench: archive
+	@echo "The archive's conversion measured side by side with two in double precision (bench):"
+	@$(CC) $(CFLAGS) -O3 -Iinclude bench/bench.c bench/straightforward.c bench/tuned.c build/libwelchodrys.a -lm -o build/bench
+	@build/bench
 
 clean:
 	rm -rf build target

@@ -5,7 +5,7 @@
  * the answer "no"; the call is then refused, and no byte of the memory lent to it changes. The index is that of a sample with the
  * numbers 10 and 11, and 0 with all others.
  *
- * Answers. An accepted call writes its answer into the buffer lent as (answer, answer_length): eight bytes a number, two's
+ * Answers. Numbers that an accepted call gives go into the buffer lent as (answer, answer_length): eight bytes a number, two's
  * complement, little-endian, number k at bytes 8k to 8k + 7. A number that does not fit whole is not written, and every other
  * byte stays. No length of an answer buffer is a refusal. A pointer may be NULL where its length is 0.
  *
@@ -54,6 +54,38 @@ enum welchodrys_format {
     WELCHODRYS_CMP = 0,
     WELCHODRYS_ACP = 1
 };
+
+/* The sampler codes. */
+enum welchodrys_sampler {
+    WELCHODRYS_NEAREST = 0,
+    WELCHODRYS_CUBIC = 1
+};
+
+/*
+ * Frames. A frame of face size A is 3A columns by 2A rows of samples, row after row; a sample is two bytes, little-endian, 0 to
+ * 2^depth - 1. So it has exactly 12 * A * A bytes, and the sample at index i is in the bytes 2i and 2i + 1.
+ *
+ * Layouts. The frame has six slots, left to right, top row first. A layout is 12 bytes: the face in each slot, then each slot's
+ * count of clockwise quarter turns, 0 to 3. One quarter turn puts the face's sample at (column m, row n) at column A - 1 - n, row m
+ * of its slot. The usual layout is {4, 0, 5, 3, 1, 2, 0, 0, 0, 1, 1, 1}.
+ */
+#define WELCHODRYS_LAYOUT_BYTES 12
+#define WELCHODRYS_FRAME_BYTES(size) (12u * (size_t)(size) * (size_t)(size))
+
+/*
+ * Converts a frame through the turn (e0, e1, e2, e3): for each sample of the target, the turn's matrix is applied to the target's ray
+ * and gives the source's ray; the sampler's value where that ray meets the source is the target's sample. Sizes and formats of the
+ * two ends may differ; they share the depth.
+ *
+ * Asks 1 of the source's size, 2 of the target's, 3 of the depth, 4 of both formats and the sampler, 5 of both layouts, 6 and 7 of the
+ * turn, 8 of the source's length (for the source's size), 9 of the target's length (for the target's size), then 10 of the source's
+ * samples. Writes every byte of the target where it is accepted, and none where it is refused. The source and both layouts stay.
+ */
+uint64_t welchodrys_convert(uint64_t source_size, uint64_t target_size, uint64_t depth,
+    uint64_t source_format, uint64_t target_format, uint64_t sampler,
+    const uint8_t *source_layout, size_t source_layout_length, const uint8_t *target_layout, size_t target_layout_length,
+    int64_t e0, int64_t e1, int64_t e2, int64_t e3,
+    const uint8_t *source, size_t source_length, uint8_t *target, size_t target_length);
 
 /*
  * Folds a first and a later turn into one: their quaternion product, the first on the left, divided by the greatest whole number

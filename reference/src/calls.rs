@@ -1,13 +1,15 @@
-//! The C calls as the paper has them: what each returns, and every byte of the answer buffer afterwards.
+//! The C calls as the paper has them: what each returns, and every byte of the answer buffer or of the target afterwards.
 
 use crate::checks::{self, Refusal};
+use crate::conversions::Conversion;
+use crate::frames::{Frame, Shape};
 use crate::{positions, rotations};
 
 /// "A C call returns its number plus 256 × the index.", and "All lent memory keeps its bytes" where the call is refused.
-fn finished(outcome: Result<Vec<i128>, Refusal>, answer: &mut [u8]) -> u64 {
+fn finished<Given>(outcome: Result<Given, Refusal>, write: impl FnOnce(Given)) -> u64 {
     match outcome {
-        Ok(numbers) => {
-            write_numbers(&numbers, answer);
+        Ok(given) => {
+            write(given);
             0
         }
         Err(Refusal { number, index }) => number + 256 * index,
@@ -23,9 +25,51 @@ fn write_numbers(numbers: &[i128], answer: &mut [u8]) {
     }
 }
 
+/// What convert is told and lent, but for the target.
+#[derive(Clone, Copy)]
+pub struct ConvertArguments<'lent> {
+    pub source_size: u64,
+    pub target_size: u64,
+    pub depth: u64,
+    pub source_format: u64,
+    pub target_format: u64,
+    pub sampler: u64,
+    pub source_layout: &'lent [u8],
+    pub target_layout: &'lent [u8],
+    pub rotation: [i64; 4],
+    pub source: &'lent [u8],
+}
+
+/// Converts a frame; where it is accepted, the target's bytes are those of the conversion.
+pub fn convert(arguments: ConvertArguments, target: &mut [u8]) -> u64 {
+    let converted = accepted_conversion(arguments, target.len()).map(|conversion| conversion.target_bytes());
+    finished(converted, |bytes| target.copy_from_slice(&bytes))
+}
+
+/// "Convert puts 1 to 10 (both ends share the depth; its second buffer is the target)."
+pub fn accepted_conversion(arguments: ConvertArguments, target_length: usize) -> Result<Conversion, Refusal> {
+    let source_size = checks::face_size(arguments.source_size.into())?;
+    let target_size = checks::target_size(arguments.target_size.into())?;
+    let depth = checks::depth(arguments.depth.into())?;
+    let source_format = checks::format(arguments.source_format.into())?;
+    let target_format = checks::format(arguments.target_format.into())?;
+    let sampler = checks::sampler(arguments.sampler.into())?;
+    let source_layout = checks::layout(arguments.source_layout)?;
+    let target_layout = checks::layout(arguments.target_layout)?;
+    let rotation = arguments.rotation.map(i128::from);
+    checks::rotation_range(&[rotation])?;
+    checks::rotation_nonzero(&[rotation])?;
+    checks::first_length(arguments.source.len(), source_size)?;
+    checks::second_length(target_length, target_size)?;
+    checks::first_samples(arguments.source, depth)?;
+    let source = Shape { size: source_size, depth, format: source_format, layout: source_layout };
+    let target = Shape { size: target_size, depth, format: target_format, layout: target_layout };
+    Ok(Conversion::new(Frame { shape: source, bytes: arguments.source }, target, rotation, sampler))
+}
+
 /// "Fold puts 6, 7, 12"; the answer is "fold's four numbers".
 pub fn fold(first: [i64; 4], later: [i64; 4], answer: &mut [u8]) -> u64 {
-    finished(fold_outcome(first.map(i128::from), later.map(i128::from)), answer)
+    finished(fold_outcome(first.map(i128::from), later.map(i128::from)), |numbers| write_numbers(&numbers, answer))
 }
 
 fn fold_outcome(first: rotations::Rotation, later: rotations::Rotation) -> Result<Vec<i128>, Refusal> {
@@ -38,7 +82,7 @@ fn fold_outcome(first: rotations::Rotation, later: rotations::Rotation) -> Resul
 
 /// "equality 6, 7"; the answer is "equality's 1 or 0".
 pub fn equal(first: [i64; 4], second: [i64; 4], answer: &mut [u8]) -> u64 {
-    finished(equal_outcome(first.map(i128::from), second.map(i128::from)), answer)
+    finished(equal_outcome(first.map(i128::from), second.map(i128::from)), |numbers| write_numbers(&numbers, answer))
 }
 
 fn equal_outcome(first: rotations::Rotation, second: rotations::Rotation) -> Result<Vec<i128>, Refusal> {
@@ -49,7 +93,9 @@ fn equal_outcome(first: rotations::Rotation, second: rotations::Rotation) -> Res
 
 /// "Look-up puts 1, 4, 13, 14."; the answer is "look-up's face, column T, row T".
 pub fn look_up(size: u64, format: u64, ray: [i64; 3], answer: &mut [u8]) -> u64 {
-    finished(look_up_outcome(i128::from(size), i128::from(format), ray.map(i128::from)), answer)
+    finished(look_up_outcome(i128::from(size), i128::from(format), ray.map(i128::from)), |numbers| {
+        write_numbers(&numbers, answer)
+    })
 }
 
 pub(crate) fn look_up_outcome(size: i128, format: i128, ray: [i128; 3]) -> Result<Vec<i128>, Refusal> {
@@ -58,14 +104,15 @@ pub(crate) fn look_up_outcome(size: i128, format: i128, ray: [i128; 3]) -> Resul
     checks::ray_range(ray)?;
     checks::ray_nonzero(ray)?;
     let location = positions::locate(format, size, ray);
-    Ok(vec![location.face, location.column, location.row])
+    Ok([location.face, location.column, location.row].map(i128::from).to_vec())
 }
 
 #[cfg(test)]
 mod tests {
     use super::*;
+    use crate::frames::USUAL_LAYOUT;
 
-    /// The code and the numbers of a call that is lent `length` bytes of 0xEE.
+    /// The code and the bytes of a call that is lent `length` bytes of 0xEE.
     fn answered(length: usize, call: impl Fn(&mut [u8]) -> u64) -> (u64, Vec<u8>) {
         let mut answer = vec![0xEE; length];
         (call(&mut answer), answer)
@@ -73,6 +120,130 @@ mod tests {
 
     fn bytes(numbers: &[i64]) -> Vec<u8> {
         numbers.iter().flat_map(|number| number.to_le_bytes()).collect()
+    }
+
+    /// A conversion in range from size 3 to size 2, with a source that counts its samples.
+    fn with_conversion(test: impl Fn(ConvertArguments)) {
+        let source: Vec<u8> = (0..54_u16).flat_map(u16::to_le_bytes).collect();
+        test(ConvertArguments {
+            source_size: 3,
+            target_size: 2,
+            depth: 8,
+            source_format: 0,
+            target_format: 1,
+            sampler: 1,
+            source_layout: &USUAL_LAYOUT,
+            target_layout: &[5, 4, 3, 2, 1, 0, 0, 1, 2, 3, 0, 1],
+            rotation: [29, 3, 7, -5],
+            source: &source,
+        });
+    }
+
+    #[test]
+    fn a_conversion_writes_every_byte() {
+        with_conversion(|good| {
+            let (code, target) = answered(48, |target| convert(good, target));
+            assert_eq!(code, 0);
+            assert!(target.chunks(2).all(|sample| sample[1] == 0));
+        });
+    }
+
+    #[test]
+    fn convert_asks_in_order() {
+        with_conversion(|good| {
+            let wrong_samples = [0xFF; 108];
+            // The first arguments are wrong for all questions but 7, which a turn that is wrong for 6 cannot be; each of the next
+            // mends what the one before it is refused for.
+            let mut call = ConvertArguments {
+                source_size: 513,
+                target_size: 0,
+                depth: 7,
+                source_format: 2,
+                source_layout: &[0; 12],
+                rotation: [0, 0, 0, -32],
+                source: &[0xFF; 107],
+                ..good
+            };
+            let refused = |call, length, code| {
+                assert_eq!(answered(length, |target| convert(call, target)), (code, vec![0xEE; length]));
+            };
+            refused(call, 49, 1);
+            call.source_size = 3;
+            refused(call, 49, 2);
+            call.target_size = 2;
+            refused(call, 49, 3);
+            call.depth = 8;
+            refused(call, 49, 4);
+            call.source_format = 0;
+            refused(call, 49, 5);
+            call.source_layout = good.source_layout;
+            refused(call, 49, 6);
+            call.rotation = [0; 4];
+            refused(call, 49, 7);
+            call.rotation = good.rotation;
+            refused(call, 49, 8);
+            call.source = &wrong_samples;
+            refused(call, 49, 9);
+            refused(call, 48, 10);
+        });
+    }
+
+    #[test]
+    fn convert_asks_both_ends() {
+        with_conversion(|good| {
+            let code = |call| answered(48, |target| convert(call, target)).0;
+            for size in [0, 513, 1 << 32, u64::MAX] {
+                assert_eq!(code(ConvertArguments { source_size: size, ..good }), 1);
+                assert_eq!(code(ConvertArguments { target_size: size, ..good }), 2);
+            }
+            for depth in [0, 7, 13, u64::MAX] {
+                assert_eq!(code(ConvertArguments { depth, ..good }), 3);
+            }
+            for wrong in [2, 256, u64::MAX] {
+                assert_eq!(code(ConvertArguments { source_format: wrong, ..good }), 4);
+                assert_eq!(code(ConvertArguments { target_format: wrong, ..good }), 4);
+                assert_eq!(code(ConvertArguments { sampler: wrong, ..good }), 4);
+            }
+            let (face_twice, large_face) = ([0, 1, 2, 3, 4, 4, 0, 0, 0, 0, 0, 0], [0, 1, 2, 3, 4, 6, 0, 0, 0, 0, 0, 0]);
+            let (large_turn, long) = ([0, 1, 2, 3, 4, 5, 0, 0, 0, 0, 0, 4], [0, 1, 2, 3, 4, 5, 0, 0, 0, 0, 0, 0, 0]);
+            for wrong in [&face_twice[..], &large_face, &large_turn, &long, &long[..11], &[]] {
+                assert_eq!(code(ConvertArguments { source_layout: wrong, ..good }), 5);
+                assert_eq!(code(ConvertArguments { target_layout: wrong, ..good }), 5);
+            }
+        });
+    }
+
+    #[test]
+    fn each_length_belongs_to_its_size() {
+        with_conversion(|good| {
+            let code = |call, length| answered(length, |target| convert(call, target)).0;
+            for (length, number) in [(0, 9), (47, 9), (48, 0), (49, 9), (108, 9)] {
+                assert_eq!(code(good, length), number);
+            }
+            for length in [0, 48, 106, 107] {
+                assert_eq!(code(ConvertArguments { source: &good.source[..length], ..good }, 48), 8);
+            }
+        });
+    }
+
+    #[test]
+    fn the_lowest_index_beyond_the_depth() {
+        with_conversion(|good| {
+            for depth in 8..=12 {
+                let mut source = good.source.to_vec();
+                for (index, sample) in [(53, 1 << depth), (40, u16::MAX), (17, 1 << depth), (0, 1 << 15)] {
+                    let largest = ((1 << depth) - 1_u16).to_le_bytes();
+                    source[2 * index..2 * index + 2].copy_from_slice(&largest);
+                    let call = ConvertArguments { depth, source: &source, ..good };
+                    let before = if index == 53 { 0 } else { 10 };
+                    assert_eq!(answered(48, |target| convert(call, target)).0 % 256, before);
+                    source[2 * index..2 * index + 2].copy_from_slice(&sample.to_le_bytes());
+                    let call = ConvertArguments { depth, source: &source, ..good };
+                    let refused = (10 + 256 * index as u64, vec![0xEE; 48]);
+                    assert_eq!(answered(48, |target| convert(call, target)), refused);
+                }
+            }
+        });
     }
 
     #[test]

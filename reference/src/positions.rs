@@ -80,22 +80,24 @@ pub fn is_halfway(exact: Ratio) -> bool {
 /// What a look-up gives: face, column T, row T.
 #[derive(Clone, Copy, Debug, PartialEq, Eq)]
 pub struct Location {
-    pub face: i128,
-    pub column: i128,
-    pub row: i128,
+    pub face: i64,
+    pub column: i64,
+    pub row: i64,
 }
 
 /// Look-up of a ray that is not zero; the column comes from u, "Rows from v likewise."
 pub fn locate(format: Format, size: i128, ray: [i128; 3]) -> Location {
     let OnFace { face, d, u, v } = on_face(ray);
-    Location { face, column: position64(exact_position(format, size, u, d)), row: position64(exact_position(format, size, v, d)) }
+    let position = |scaled: i128| position64(exact_position(format, size, scaled, d));
+    let [face, column, row] = [face, position(u), position(v)].map(|number| i64::try_from(number).expect("a small number"));
+    Location { face, column, row }
 }
 
 #[cfg(test)]
 mod tests {
     use super::*;
 
-    fn located(format: Format, size: i128, ray: [i128; 3]) -> [i128; 3] {
+    fn located(format: Format, size: i128, ray: [i128; 3]) -> [i64; 3] {
         let Location { face, column, row } = locate(format, size, ray);
         [face, column, row]
     }

@@ -1,6 +1,8 @@
 //! Random numbers for the tests that compare. The generator is one of their own (splitmix64), so that a seed gives the same cases
 //! everywhere.
 
+use crate::frames::USUAL_LAYOUT;
+
 /// The bound of question 13.
 pub const LARGEST_RAY: i64 = 536_870_911;
 
@@ -77,4 +79,32 @@ pub fn ray(random: &mut Random) -> [i64; 3] {
         numbers = numbers.map(|_| random.sign() * numbers[0]);
     }
     numbers
+}
+
+/// A layout with the faces in a random order and random turns, now and then the usual one.
+pub fn layout(random: &mut Random) -> [u8; 12] {
+    if random.once_in(8) {
+        return USUAL_LAYOUT;
+    }
+    let mut layout = [0, 1, 2, 3, 4, 5, 0, 0, 0, 0, 0, 0];
+    for slot in 0..6 {
+        layout.swap(slot, slot + random.below(6 - slot));
+        layout[6 + slot] = random.below(4) as u8;
+    }
+    layout
+}
+
+/// A whole-cube turn in range: one, two or all four numbers of the same size, the others 0.
+pub fn cube_rotation(random: &mut Random) -> [i64; 4] {
+    let size = if random.once_in(2) { 1 } else { 1 + random.below(31) as i64 };
+    let numbers = [0; 4].map(|_| random.sign() * size);
+    let (first, second) = (random.below(4), random.below(4));
+    if random.once_in(3) {
+        return numbers;
+    }
+    let mut few = [0; 4];
+    for position in [first, second] {
+        few[position] = numbers[position];
+    }
+    few
 }

@@ -1,7 +1,36 @@
-//! The paper's section "Turns": products, reduction and equality.
+//! The paper's section "Turns": matrices, products, reduction and equality.
 
 /// "A turn is four whole numbers (e0, e1, e2, e3)".
 pub type Rotation = [i128; 4];
+
+/// The rows of a rotation's matrix.
+pub type Matrix = [[i64; 3]; 3];
+
+/// "Its matrix rows", of a rotation in range.
+pub fn matrix(rotation: Rotation) -> Matrix {
+    let [e0, e1, e2, e3] = rotation.map(|number| i64::try_from(number).expect("a small number"));
+    [
+        [e0 * e0 + e1 * e1 - e2 * e2 - e3 * e3, 2 * (e1 * e2 - e0 * e3), 2 * (e1 * e3 + e0 * e2)],
+        [2 * (e1 * e2 + e0 * e3), e0 * e0 - e1 * e1 + e2 * e2 - e3 * e3, 2 * (e2 * e3 - e0 * e1)],
+        [2 * (e1 * e3 - e0 * e2), 2 * (e2 * e3 + e0 * e1), e0 * e0 - e1 * e1 - e2 * e2 + e3 * e3],
+    ]
+}
+
+/// The matrix "applied to the target's ray".
+pub fn applied(matrix: &Matrix, [x, y, z]: [i64; 3]) -> [i64; 3] {
+    matrix.map(|[along_x, along_y, along_z]| along_x * x + along_y * y + along_z * z)
+}
+
+/// "the sum of the four squares"
+pub fn sum_of_squares(rotation: Rotation) -> i128 {
+    rotation.iter().map(|number| number * number).sum()
+}
+
+/// "A whole-cube turn is one whose nine entries are each 0 or ± the sum of the four squares."
+pub fn is_cube_rotation(rotation: Rotation) -> bool {
+    let sum = sum_of_squares(rotation);
+    matrix(rotation).into_iter().flatten().all(|entry| [0, sum, -sum].contains(&entry.into()))
+}
 
 /// "Folding a first and a later turn is the quaternion product, first on the left."
 pub fn product([a0, a1, a2, a3]: Rotation, [b0, b1, b2, b3]: Rotation) -> Rotation {
@@ -51,6 +80,40 @@ pub fn equal(first: Rotation, second: Rotation) -> bool {
 #[cfg(test)]
 mod tests {
     use super::*;
+
+    #[test]
+    fn matrices_of_single_turns() {
+        assert_eq!(matrix([1, 0, 0, 0]), [[1, 0, 0], [0, 1, 0], [0, 0, 1]]);
+        assert_eq!(matrix([1, 1, 0, 0]), [[2, 0, 0], [0, 0, -2], [0, 2, 0]]);
+        assert_eq!(matrix([1, 0, 1, 0]), [[0, 0, 2], [0, 2, 0], [-2, 0, 0]]);
+        assert_eq!(matrix([1, 0, 0, 1]), [[0, -2, 0], [2, 0, 0], [0, 0, 2]]);
+        assert_eq!(matrix([1, 2, 3, 4]), [[-20, 4, 22], [20, -10, 20], [10, 28, 4]]);
+    }
+
+    #[test]
+    fn the_later_turn_is_applied_first() {
+        // The matrix leads from target to source, so a later turn's comes before an earlier one's.
+        let (first, later, ray) = ([1, 2, 3, 4], [5, -6, 7, -8], [3, -1, 2]);
+        let in_turn = applied(&matrix(first), applied(&matrix(later), ray));
+        assert_eq!(applied(&matrix(product(first, later)), ray), in_turn);
+    }
+
+    #[test]
+    fn lengths_grow_by_the_sum_of_squares() {
+        let length = |ray: [i64; 3]| ray.iter().map(|&number| i128::from(number * number)).sum::<i128>();
+        let (rotation, ray) = ([31, -7, 2, 19], [5, -11, 3]);
+        assert_eq!(length(applied(&matrix(rotation), ray)), sum_of_squares(rotation).pow(2) * length(ray));
+    }
+
+    #[test]
+    fn whole_cube_turns() {
+        for rotation in [[1, 0, 0, 0], [0, 0, -7, 0], [0, 31, -31, 0], [-2, 0, 0, 2], [1, 1, 1, -1], [5, -5, 5, 5]] {
+            assert!(is_cube_rotation(rotation));
+        }
+        for rotation in [[2, 1, 0, 0], [1, 1, 1, 0], [3, 3, 3, 2], [0, 1, 0, 31]] {
+            assert!(!is_cube_rotation(rotation));
+        }
+    }
 
     #[test]
     fn p9_first_then_later() {

@@ -11,8 +11,8 @@ use lib.Signed.{ltZ}
 use borrow.Author.Tests.{le-leb, lt-leb}
 use Rattle.arithmetic.proofs.Tests.{passes, fails}
 use Rattle.cubemap.specs.declared.Refusal.{Refusal}
-use Rattle.cubemap.specs.Interface.{accepted, isAccepted, returnCode, littleEndian, twosComplement, putAt, putAll}
-use Rattle.cubemap.specs.Outcomes.{Result, result, refusal, refused, written}
+use Rattle.cubemap.specs.Interface.{Answer, accepted, isAccepted, returnCode, littleEndian, twosComplement, putAt, putAll}
+use Rattle.cubemap.specs.Outcomes.{Result, result, Outcome, outcome, refusal, refused, written}
 use Rattle.cubemap.specs.Promises.{Gives}
 
 -- ---- two's complement
@@ -86,3 +86,7 @@ module _ (r : Result) (buffer after : List ℕ) where
     returns = c ∙ ap (λ r. returnCode (r .answered)) e;
     holds = h ∙ sym (put-none buffer 0) ∙ ap (λ (r : Result). putAll buffer 0 (r .values)) e;
   }
+
+-- what a call answered, with the bytes that it left, gives the outcome that they make up
+pub gives-outcome : {o : Outcome} {a : Answer} {code : ℕ} {bytes : List ℕ} → outcome a bytes ≡ o → code ≡ returnCode a → Gives o code bytes
+gives-outcome e r = record { returns = r ∙ ap (λ o. returnCode (o .answered)) e; holds = ap (λ o. o .bytes) e }

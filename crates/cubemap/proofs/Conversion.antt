@@ -1,9 +1,10 @@
 -- A conversion at one place: where it reads, that look-up answers with the very same position, that its value is within the depth, that a nonzero
 -- multiple of a rotation reads the same, and that a cube rotation to a frame of the same shape gives the source's own sample.
-use mathlib.Core.Path.{_≡_, sym, _∙_, ap}
+use mathlib.Core.Path.{_≡_, refl, sym, _∙_, ap}
 use mathlib.Core.List.{List}
 use Prim.Native.Nat.{ℕ, _*_, _^_, _≤_, _<_}
 use native.Mathlib.Nat.{mul-pos}
+use native.Mathlib.Omega.{arith}
 use lib.Dec.{T}
 use lib.IntN.{ℤ, natAbs}
 use Rattle.cubemap.specs.declared.Format.{Format}
@@ -12,17 +13,18 @@ use Rattle.cubemap.specs.declared.Ray.{Ray}
 use Rattle.cubemap.specs.declared.Rotation.{Rotation}
 use Rattle.cubemap.specs.declared.Shape.{Shape}
 use Rattle.cubemap.specs.Interface.{formatOf, samplerOf, accepted, isAccepted}
-use Rattle.cubemap.specs.Frames.{IsPlace, sampleAtPlace}
+use Rattle.cubemap.specs.Frames.{IsPlace, planeSamples, sampleAtPlace}
 use Rattle.cubemap.specs.PlaceToRay.{times, rayOf}
 use Rattle.cubemap.specs.Rotations.{sumOfSquares, rotated, CubeRotation}
 use Rattle.cubemap.specs.RayToPlace.{locate}
 use Rattle.cubemap.specs.Samplers.{sampleFrom}
-use Rattle.cubemap.specs.Checks.{ConvertSettings, targetShape, samplesOK}
-use Rattle.cubemap.specs.Outcomes.{result, ifAccepted, lookUpValues, sourcePosition, valueAt, convertedSample, convertAnswer, lookUpResult}
+use Rattle.cubemap.specs.Checks.{ConvertSettings, targetShape, lengthOK, samplesOK}
+use Rattle.cubemap.specs.Outcomes.{result, ifAccepted, lookUpValues, lookUpResult}
+use Rattle.cubemap.specs.Outcomes.{sourcePosition, valueAt, convertedSample, convertedBytes, convertAnswer}
 use Rattle.cubemap.proofs.FaceCoordinates.{Coordinates, coordinates}
 use Rattle.cubemap.proofs.Locate.{OnFace, locate-on-face, locate-times, middleOf, locate-own-times}
 use Rattle.cubemap.proofs.Layouts.{LayoutHolds, layout-holds}
-use Rattle.cubemap.proofs.Framed.{place-below}
+use Rattle.cubemap.proofs.Framed.{planeOf, samples-number, bytes-number, length-is, place-below}
 use Rattle.cubemap.proofs.Passed.{size-range, ConvertPassed, convert-passed, look-up-accepted}
 use Rattle.cubemap.proofs.Samplers.{value-within, value-own}
 use Rattle.cubemap.proofs.Rotations.{sum-positive, multiple, rotated-multiple, LeadsTo, leads-only}
@@ -38,7 +40,35 @@ multiple-position z k t r h =
     ap (locate (formatOf (z .format)) (z .size)) (rotated-multiple k t r)
     ∙ locate-times (formatOf (z .format)) (z .size) (natAbs k * natAbs k) (rotated t r) (mul-pos h h)
 
--- ---- a conversion that has passed its checks, at a place of the target
+-- ---- what a conversion writes, sample by sample
+
+pub converted-frame : (s : ConvertSettings) (source : List ℕ)
+    → convertedBytes s source ≡ planeOf (s .targetSize) (s .targetLayout) (convertedSample s source)
+unfolding convertedBytes
+converted-frame s source = refl
+
+pub converted-value : (s : ConvertSettings) (source : List ℕ) (P : Place)
+    → convertedSample s source P
+    ≡ sampleFrom (samplerOf (s .sampler)) (s .sourceShape .size) (s .sourceShape .depth)
+    (sampleAtPlace source (s .sourceShape .size) (s .sourceLayout))
+    (locate (formatOf (s .sourceShape .format)) (s .sourceShape .size)
+    (rotated (s .rotation) (rayOf (formatOf (s .targetFormat)) (s .targetSize) P)))
+unfolding convertedSample valueAt sourcePosition
+converted-value s source P = refl
+
+-- ---- a conversion that has passed its checks: the lengths of its frames
+
+plane-bytes : (z : Shape) (n : ℕ) → T (lengthOK z n) → n ≡ 2 * planeSamples (z .size)
+plane-bytes z n t = omega (arith, length-is z n t, bytes-number z, samples-number z)
+
+pub source-bytes : {s : ConvertSettings} {n m : ℕ} {source : List ℕ} → ConvertPassed s n m source → n ≡ 2 * planeSamples (s .sourceShape .size)
+source-bytes {s} {n} c = plane-bytes (s .sourceShape) n (c .source-length)
+
+pub target-bytes : {s : ConvertSettings} {n m : ℕ} {source : List ℕ} → ConvertPassed s n m source → m ≡ 2 * planeSamples (s .targetSize)
+unfolding targetShape
+target-bytes {s} {m = m} c = plane-bytes (targetShape s) m (c .target-length)
+
+-- ---- and what it reads for a place of the target
 
 module _ (s : ConvertSettings) (n m : ℕ) (source : List ℕ) (c : ConvertPassed s n m source) (P : Place) (p : IsPlace (s .targetSize) P) where
   -- the target's ray at the place

@@ -5,7 +5,7 @@ use mathlib.Core.List.{List, [], _∷_, _++_}
 use Prim.Native.Nat.{ℕ, zero, suc, _+_, _*_, _^_, _<_}
 use native.Mathlib.Decide.{ℕ-discrete}
 use native.Mathlib.Omega.{arith}
-use lib.Dec.{T, eqb, ltb→lt, lt→ltb}
+use lib.Dec.{T, eqb, eqb→eq, ltb→lt, lt→ltb}
 use lib.ListN.{length, length-append, take, drop, getD, List·getD-append}
 use lib.Seq.{getD-take, getD-drop}
 use Rattle.arithmetic.specs.Searches.{lowest, allBelow}
@@ -17,6 +17,14 @@ use Rattle.cubemap.specs.Frames.{IsPlace, sampleAt, framed, planeSamples
 use Rattle.cubemap.specs.Checks.{lengthOK, sampleOK, samplesOK, lowestBeyond}
 use Rattle.cubemap.proofs.Layouts.{LayoutHolds}
 use Rattle.cubemap.proofs.Indices.{index-ok, placeAt-index, placeAt-ok}
+
+pub framed-none : (f : ℕ → ℕ) → framed f 0 ≡ []
+unfolding framed
+framed-none f = refl
+
+pub framed-next : (f : ℕ → ℕ) (n : ℕ) → framed f (suc n) ≡ framed f n ++ littleEndian 2 (f n)
+unfolding framed
+framed-next f n = refl
 
 pub framed-length : (f : ℕ → ℕ) (n : ℕ) → length (framed f n) ≡ 2 * n
 unfolding framed
@@ -102,6 +110,10 @@ bytes-number z = refl
 pub length-test : (z : Shape) (n : ℕ) → lengthOK z n ≡ eqb n (2 * samplesIn z)
 unfolding lengthOK bytesIn
 length-test z n = refl
+
+pub length-is : (z : Shape) (n : ℕ) → T (lengthOK z n) → n ≡ bytesIn z
+unfolding lengthOK
+length-is z n t = eqb→eq n (bytesIn z) t
 
 -- ---- checks 10 and 11
 

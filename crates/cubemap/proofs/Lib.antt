@@ -8,6 +8,7 @@ pub mod Answers
 pub mod Layouts
 pub mod Indices
 pub mod Framed
+pub mod ConvertChecks
 pub mod Curves
 pub mod FaceCoordinates
 pub mod Rotations

@@ -1,15 +1,15 @@
 -- What an accepted call has passed: each list of checks inverted once, into a record with named fields.
-use mathlib.Core.Path.{_≡_, refl, _∙_, ap}
+use mathlib.Core.Path.{_≡_, refl, sym, _∙_, ap}
 use mathlib.Core.Bool.{Bool, true, false, _&&_, not, cond}
 use mathlib.Core.List.{List, [], _∷_, _++_}
 use Prim.Native.Nat.{ℕ, _≤_, _<_}
 use native.Mathlib.Omega.{arith}
 use lib.Dec.{T, eqb, leb, leb→le, le→leb, T-not}
 use lib.ListN.{length}
-use borrow.Author.Tests.{lt-leb}
-use Rattle.arithmetic.proofs.Tests.{and-left, and-right, and-both, and-false, All3, and3, cond-true, cond-both}
+use borrow.Author.Tests.{not-true, not-false, lt-leb}
+use Rattle.arithmetic.proofs.Tests.{passes, and-left, and-right, and-both, and-false, All3, and3, cond-true, cond-both}
 use Rattle.cubemap.specs.declared.Ray.{Ray}
-use Rattle.cubemap.specs.Interface.{answer, accepted, isAccepted}
+use Rattle.cubemap.specs.Interface.{Answer, answer, accepted, isAccepted}
 use Rattle.cubemap.specs.Checks.{ConvertSettings, ScoreSettings, targetShape, Check, check, firstFailed, between, sizeOK, depthOK, codeOK}
 use Rattle.cubemap.specs.Checks.{layoutOK, rotationInRange, rotationNonzero, lengthOK, samplesOK, rayInRange, rayNonzero}
 use Rattle.cubemap.specs.Checks.{sizeChecks, settingChecks, lengthChecks, beforeSamples, convertChecks, scoreChecks, lookUpChecks}
@@ -69,6 +69,26 @@ failing [] c rest h e = ap (λ b. cond b (firstFailed rest) (answer (c .number) 
 failing (d ∷ front) c rest h e =
     cond-true (d .holds) (firstFailed (front ++ (c ∷ rest))) (answer (d .number) (d .index)) (h .0) ∙ failing front c rest (h .1) e
 
+-- the checks that remain: those in front of them hold, so these decide the answer
+pub record Remaining (cs : List Check) (a : Answer) : Type 0 where
+  pub decide : firstFailed cs ≡ a
+
+-- the next of them is asked, and answered r: where it holds, those behind it remain, and where it fails, it decides
+module _ {c : Check} {rest : List Check} {a : Answer} {r : Bool} (left : Remaining (c ∷ rest) a) (e : r ≡ c .holds) where
+  pub next-holds : not r ≡ false → Remaining rest a
+  unfolding firstFailed
+  next-holds h = record {
+    decide = sym (cond-true (c .holds) (firstFailed rest) (answer (c .number) (c .index)) (passes (sym e ∙ not-false r h))) ∙ left .decide;
+  }
+
+  pub next-fails : not r ≡ true → answer (c .number) (c .index) ≡ a
+  next-fails h = sym (failing [] c rest tt (sym e ∙ not-true r h)) ∙ left .decide
+
+-- no check remains
+pub none-fails : {a : Answer} → Remaining [] a → accepted ≡ a
+unfolding firstFailed
+none-fails left = left .decide
+
 -- checks in front of others: the first that fails of them, else that of the others
 pub firstFailed-append : (xs ys : List Check) → T (numbered xs)
     → firstFailed (xs ++ ys) ≡ cond (isAccepted (firstFailed xs)) (firstFailed ys) (firstFailed xs)
@@ -109,6 +129,10 @@ above-fails : (low high x : ℕ) → high < x → between low high x ≡ false
 above-fails low high x h = ap (λ b. leb low x && b) (lt-leb x high h) ∙ and-false (leb low x)
 
 -- 1, 2
+pub size-test : (A : ℕ) → sizeOK A ≡ between 1 512 A
+unfolding sizeOK
+size-test A = refl
+
 pub size-range : (A : ℕ) → T (sizeOK A) → Between 1 512 A
 unfolding sizeOK
 size-range A t = between-is 1 512 A t
@@ -126,11 +150,19 @@ unfolding sizeOK
 size-above A h = above-fails 1 512 A h
 
 -- 3
+pub depth-test : (D : ℕ) → depthOK D ≡ between 8 12 D
+unfolding depthOK
+depth-test D = refl
+
 pub depth-range : (D : ℕ) → T (depthOK D) → Between 8 12 D
 unfolding depthOK
 depth-range D t = between-is 8 12 D t
 
 -- 4
+pub code-test : (c : ℕ) → codeOK c ≡ leb c 1
+unfolding codeOK
+code-test c = refl
+
 pub code-holds : (c : ℕ) → c ≤ 1 → T (codeOK c)
 unfolding codeOK
 code-holds c h = le→leb c 1 h

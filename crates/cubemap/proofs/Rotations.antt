@@ -288,6 +288,20 @@ rotated-product a b v = ray-eq (line (row1 a) (m .in-row1)) (line (row2 a) (m .i
     line : (r : Ray) {s : Ray} → s ≡ rowTimes r b → dot s v ≡ dot r (rotated b v)
     line r e = ap (λ s. dot s v) e ∙ row-rotated r (row1 b) (row2 b) (row3 b) v
 
+-- ---- a ray moved by w times another one, and rotated
+
+abbrev pub along : Ray → ℤ → Ray → Ray
+along r w e = ray (r .x +ℤ w *ℤ e .x) (r .y +ℤ w *ℤ e .y) (r .z +ℤ w *ℤ e .z)
+
+dot-along : (row r e : Ray) (w : ℤ) → dot row (along r w e) ≡ dot row r +ℤ w *ℤ dot row e
+dot-along row r e w = solve (rayNumbers row (rayNumbers r (rayNumbers e (w ∷ []))))
+    (dotE (rayE 0) (record { x = var 3 ⊕ var 9 ⊗ var 6; y = var 4 ⊕ var 9 ⊗ var 7; z = var 5 ⊕ var 9 ⊗ var 8 }))
+    (dotE (rayE 0) (rayE 3) ⊕ var 9 ⊗ dotE (rayE 0) (rayE 6)) tt
+
+pub rotated-along : (t : Rotation) (r e : Ray) (w : ℤ) → rotated t (along r w e) ≡ along (rotated t r) w (rotated t e)
+unfolding rotated
+rotated-along t r e w = ray-eq (dot-along (row1 t) r e w) (dot-along (row2 t) r e w) (dot-along (row3 t) r e w)
+
 pub sum-product : (a b : Rotation) → sumOfSquares (product a b) ≡ sumOfSquares a * sumOfSquares b
 unfolding product
 sum-product a b = pos-inj (sumOfSquares (product a b)) (sumOfSquares a * sumOfSquares b)

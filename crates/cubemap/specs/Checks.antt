@@ -26,6 +26,17 @@ pub record ConvertSettings : Type 0 where
   pub targetLayout : List ℕ
   pub rotation : Rotation
 
+abbrev pub convertSettings : Shape → ℕ → ℕ → ℕ → List ℕ → List ℕ → Rotation → ConvertSettings
+convertSettings z size format sampler sourceLayout targetLayout t = record {
+  sourceShape = z;
+  targetSize = size;
+  targetFormat = format;
+  sampler = sampler;
+  sourceLayout = sourceLayout;
+  targetLayout = targetLayout;
+  rotation = t;
+}
+
 unfoldable pub targetShape : ConvertSettings → Shape
 targetShape s = record { size = s .targetSize; depth = s .sourceShape .depth; format = s .targetFormat }
 

@@ -30,6 +30,18 @@ pub record ConvertCall : Type 0 where
   pub sourceAfter : List ℕ
   pub targetAfter : List ℕ
 
+abbrev pub convertCall : ConvertSettings → List ℕ → List ℕ → ℕ → List ℕ → List ℕ → List ℕ → List ℕ → ConvertCall
+convertCall s source target returned sourceLayoutAfter targetLayoutAfter sourceAfter targetAfter = record {
+  settings = s;
+  source = source;
+  target = target;
+  returned = returned;
+  sourceLayoutAfter = sourceLayoutAfter;
+  targetLayoutAfter = targetLayoutAfter;
+  sourceAfter = sourceAfter;
+  targetAfter = targetAfter;
+}
+
 pub record ConvertPromise (c : ConvertCall) : Type 0 where
   pub gives : Gives (convertOutcome (c .settings) (c .source) (c .target)) (c .returned) (c .targetAfter)
   pub source-stays : c .sourceAfter ≡ c .source

@@ -1,18 +1,17 @@
 // From place to ray and from ray to place, on 64-bit numbers.
 ghost use mathlib.Core.Path.{_≡_};
-ghost use Prim.Native.Nat.{ℕ, _≤_, _<_};
+ghost use Prim.Native.Nat.{ℕ, _/_, _≤_, _<_};
 ghost use lib.Dec.{T};
 ghost use lib.ListN.{getD};
 ghost use lib.IntN.{pos, natAbs};
 ghost use Rattle.cubemap.specs.Interface.{formatOf};
 ghost use Rattle.cubemap.specs.Frames.{IsPlace};
 ghost use Rattle.cubemap.specs.PlaceToRay as paper;
-ghost use Rattle.cubemap.specs.RayToPlace.{faceOf, chosenSize, across, down, position64};
+ghost use Rattle.cubemap.specs.RayToPlace.{faceOf, chosenSize, across, down};
 ghost use Rattle.cubemap.specs.RayToPlace as toPlace;
 ghost use Rattle.cubemap.specs.Checks.{rayInRange, rayNonzero};
 ghost use Rattle.cubemap.specs.Outcomes.{lookedUpMeans, lookUpResult};
 ghost use Rattle.cubemap.proofs.Curves.{bent};
-ghost use Rattle.cubemap.proofs.Positions.{acpFirst};
 use cubemap::Format;
 use cubemap::Located;
 use cubemap::LookedUp;
@@ -104,7 +103,7 @@ pub fn face_coordinates(format: Format, size: u64) -> [i64; 512]
 }
 
 // A row of Table 3.
-fn table3(face: u64, s: i64, a: i64, b: i64) -> Ray
+pub fn table3(face: u64, s: i64, a: i64, b: i64) -> Ray
     requires { ⌜ (face < 6) × (natAbs s ≤ 65536) × (natAbs a ≤ 65536) × (natAbs b ≤ 65536) ⌝ }
     ensures { λ r. ⌜ r ≡ paper.table3 face s a b ⌝ }
 {
@@ -219,52 +218,6 @@ fn table4(v: Ray) -> Facing
     }
 }
 
-// T of x / d in CMP: one division, of a number that is not negative.
-fn cmp_position(size: u64, x: i64, d: u64) -> i64
-    requires { ⌜ (size ≤ 512) × (0 < d) × (d ≤ 536870911) × (natAbs x ≤ d) ⌝ }
-    ensures { λ r. ⌜ r ≡ position64 Format.Cmp size x d ⌝ }
-{
-    let s = (x + d as i64) as u64;
-    ((64 * size * s + d) / (2 * d)) as i64 - 32
-}
-
-// The numerator of T + 32 in ACP, which exceeds 64 bits, divided by d and rounded down: by the quotient and the remainder of x² / d.
-fn acp_first(size: u64, x: i64, d: u64) -> u64
-    requires { ⌜ (size ≤ 512) × (0 < d) × (d ≤ 536870911) × (natAbs x ≤ d) ⌝ }
-    ensures { λ r. ⌜ (r ≡ acpFirst size x d) ⌝ }
-{
-    let k = arithmetic::magnitude(x);
-    let square = k * k;
-    let whole = 576 * size * (square / d);
-    let part = 576 * size * (square % d);
-    let linear = 2176 * size * k;
-    let middle = 1600 * size * d + 25 * d;
-    if x < 0 {
-        middle + whole + part / d - linear
-    } else {
-        middle + linear - whole - (part + (d - 1)) / d
-    }
-}
-
-// T of x / d in ACP: the nested divisions are exact.
-fn acp_position(size: u64, x: i64, d: u64) -> i64
-    requires { ⌜ (size ≤ 512) × (0 < d) × (d ≤ 536870911) × (natAbs x ≤ d) ⌝ }
-    ensures { λ r. ⌜ r ≡ position64 Format.Acp size x d ⌝ }
-{
-    (acp_first(size, x, d) / (50 * d)) as i64 - 32
-}
-
-// T of x / d.
-pub fn position(format: Format, size: u64, x: i64, d: u64) -> i64
-    requires { ⌜ (size ≤ 512) × (0 < d) × (d ≤ 536870911) × (natAbs x ≤ d) ⌝ }
-    ensures { λ r. ⌜ r ≡ position64 format size x d ⌝ }
-{
-    match format {
-        Format::Cmp => cmp_position(size, x, d),
-        Format::Acp => acp_position(size, x, d),
-    }
-}
-
 // Where a ray falls on a face of this size and format.
 pub fn locate(format: Format, size: u64, v: Ray) -> Located
     requires { ⌜ (size ≤ 512) × T (rayInRange v) × T (rayNonzero v) ⌝ }
@@ -273,8 +226,9 @@ pub fn locate(format: Format, size: u64, v: Ray) -> Located
     let f = table4(v);
     let face = f.face;
     let d = f.distance;
-    let column = position(format, size, f.across, d);
-    let row = position(format, size, f.down, d);
+    let inverse = positions::inverse(d);
+    let column = positions::position(format, size, f.across, d, inverse);
+    let row = positions::position(format, size, f.down, d, inverse);
     Located {
         face: face,
         column: column,

@@ -9,8 +9,8 @@ use Rattle.cubemap.specs.Frames.{sampleAtPlace}
 use Rattle.cubemap.specs.Samplers.{sampleFrom}
 use Rattle.cubemap.proofs.Locate.{OnFace}
 use Rattle.cubemap.proofs.Samplers.{tappedPlace, tappedPlace-ok, value-cong}
-use Rattle.frame.specs.Steps.{LeadsTo, sampleBy}
-use Rattle.frame.proofs.Stepping.{sample-by-layout}
+use Rattle.indices.specs.Steps.{LeadsTo, sampleBy}
+use Rattle.indices.proofs.Stepping.{sample-by-layout}
 
 pub value-by-layout : (c : Sampler) (A D : ℕ) (L : List ℕ) (table : List ℤ) (plane : List ℕ) (p : Located) → LeadsTo A L table → 1 ≤ A → OnFace A p
     → sampleFrom c A D (sampleBy plane table) p ≡ sampleFrom c A D (sampleAtPlace plane A L) p

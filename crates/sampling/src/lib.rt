@@ -4,13 +4,14 @@ ghost use Prim.Native.Nat.{_+_, _*_, _^_, _≤_, _<_};
 ghost use lib.Dec.{T};
 ghost use lib.IntN.{pos, natAbs, _+ℤ_};
 ghost use lib.ListN.{length};
+ghost use Rattle.cubemap.specs.Interface.{samplerOf};
 ghost use Rattle.cubemap.specs.Frames.{IsPlace, sampleAt};
 ghost use Rattle.cubemap.specs.Checks.{depthOK};
 ghost use Rattle.cubemap.specs.Samplers.{nearestColumn, nearestPlace, tapAt, tapPlace, cubicSum, sampleFrom};
 ghost use Rattle.cubemap.specs.Samplers as paper;
 ghost use Rattle.cubemap.proofs.Positions.{InRange};
 ghost use Rattle.cubemap.proofs.Locate.{OnFace};
-ghost use Rattle.frame.specs.Steps.{SteppedFace, SteppedPlane, sampleBySteps, sampleBy};
+ghost use Rattle.indices.specs.Steps.{SteppedFace, SteppedPlane, sampleBySteps, sampleBy};
 ghost use Rattle.sampling.specs.Taps.{IsWeights, weightsOf, Small, weighed, rowSum, gridSum, tapped, inFace};
 
 mod table;
@@ -18,7 +19,7 @@ mod table;
 use cubemap::Located;
 use cubemap::Place;
 use cubemap::Sampler;
-use frame::FaceSteps;
+use indices::FaceSteps;
 
 // ---- nearest
 
@@ -39,7 +40,7 @@ pub fn nearest(plane: &[u8], size: u64, steps: &[i64; 18], p: Located) -> u64
     let face = p.face;
     let column = nearest_column(size, p.column);
     let row = nearest_column(size, p.row);
-    frame::sample_by(
+    indices::sample_by(
         plane,
         size,
         steps,
@@ -143,7 +144,7 @@ fn row_by_part(plane: &[u8], size: u64, steps: FaceSteps, column: u64, row: u64,
     requires { ⌜ Small u × SteppedFace size (now plane) steps × (column + 3 < size) × (row < size) × (steps .across ≡ pos 1) ⌝ }
     ensures { λ r. ⌜ (r ≡ rowSum u (λ i. sampleBySteps (now (plane .entry)) steps (column + i) row)) × (natAbs r ≤ 2 ^ 37) ⌝ }
 {
-    let from = 2 * (frame::step_to(steps, 0, row) as usize);
+    let from = 2 * (indices::step_to(steps, 0, row) as usize);
     let to = from + 2 * (size as usize);
     taps_of_row(&plane[from..to], column, u)
 }
@@ -153,10 +154,10 @@ fn row_by_steps(plane: &[u8], size: u64, steps: FaceSteps, column: u64, row: u64
     requires { ⌜ Small u × SteppedFace size (now plane) steps × (column + 3 < size) × (row < size) ⌝ }
     ensures { λ r. ⌜ (r ≡ rowSum u (λ i. sampleBySteps (now (plane .entry)) steps (column + i) row)) × (natAbs r ≤ 2 ^ 37) ⌝ }
 {
-    let a = frame::sample_by_steps(plane, size, steps, column, row);
-    let b = frame::sample_by_steps(plane, size, steps, column + 1, row);
-    let c = frame::sample_by_steps(plane, size, steps, column + 2, row);
-    let d = frame::sample_by_steps(plane, size, steps, column + 3, row);
+    let a = indices::sample_by_steps(plane, size, steps, column, row);
+    let b = indices::sample_by_steps(plane, size, steps, column + 1, row);
+    let c = indices::sample_by_steps(plane, size, steps, column + 2, row);
+    let d = indices::sample_by_steps(plane, size, steps, column + 3, row);
     weigh_samples(u, a, b, c, d)
 }
 
@@ -254,7 +255,7 @@ fn tap(plane: &[u8], size: u64, steps: &[i64; 18], face: u64, column: i64, row: 
     requires { ⌜ SteppedPlane size (now plane) (now steps) × (face < 6) ⌝ }
     ensures { λ r. ⌜ (r ≡ sampleBy (now (plane .entry)) (now (steps .entry)) (tapPlace size face column row)) × (r < 65536) ⌝ }
 {
-    frame::sample_by(plane, size, steps, tap_place(size, face, column, row))
+    indices::sample_by(plane, size, steps, tap_place(size, face, column, row))
 }
 
 // Four taps of a row, each by its place.
@@ -337,7 +338,7 @@ fn sum_from(
         sum_inside(
             plane,
             size,
-            frame::steps_at(steps, face),
+            indices::steps_at(steps, face),
             column as u64,
             row as u64,
             u,
@@ -396,6 +397,17 @@ pub fn cubic(
 }
 
 // ---- either sampler
+
+// Code 0 is nearest; question 4 refuses every code but 0 and 1.
+pub fn sampler_of(code: u64) -> Sampler
+    ensures { λ r. ⌜ r ≡ samplerOf code ⌝ }
+{
+    if code == 0 {
+        Sampler::Nearest
+    } else {
+        Sampler::Cubic
+    }
+}
 
 // The value that a sampler gives at a position of a face.
 pub fn sample_from(

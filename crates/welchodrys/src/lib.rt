@@ -1,114 +1,68 @@
 // The calls that C makes: numbers and lent buffers go in, a code and bytes come out. Each is thin over the function that does the work.
-ghost use mathlib.Core.Path.{_≡_};
-ghost use Prim.Native.Nat.{_+_, _%_, _≤_, _<_};
-ghost use lib.IntN.{pos};
-ghost use lib.ListN.{length};
-ghost use lib.Seq.{sets};
-ghost use Rattle.cubemap.specs.Interface.{littleEndian, twosComplement, putAt, putAll, returnCode};
-ghost use Rattle.cubemap.specs.Outcomes.{foldValues, equalValues, lookUpValues, refusal};
 ghost use Rattle.cubemap.specs.PlaceToRay.{ray};
-ghost use Rattle.cubemap.specs.Promises.{FoldPromise, EqualPromise, LookUpPromise};
+ghost use Rattle.cubemap.specs.Frames.{shapeOf};
+ghost use Rattle.cubemap.specs.Checks.{convertSettings};
+ghost use Rattle.cubemap.specs.Promises.{convertCall, ConvertPromise, FoldPromise, EqualPromise, LookUpPromise};
 ghost use Rattle.cubemap.specs.Rotations.{rotation};
 use cubemap::Compared;
+use cubemap::Converted;
 use cubemap::Folded;
-use cubemap::Located;
 use cubemap::LookedUp;
 use cubemap::Ray;
-use cubemap::Refusal;
 use cubemap::Rotation;
+use cubemap::Shape;
 
-// ---- numbers in a lent buffer: eight bytes each, two's complement, little-endian
-
-fn twos_complement(v: i64) -> u64
-    ensures { λ r. ⌜ r ≡ twosComplement v ⌝ }
+// Convert a frame through a turn: the target's bytes.
+#[no_mangle]
+pub extern "C" fn welchodrys_convert(
+    source_size: u64,
+    target_size: u64,
+    depth: u64,
+    source_format: u64,
+    target_format: u64,
+    sampler: u64,
+    source_layout: &[u8],
+    target_layout: &[u8],
+    e0: i64,
+    e1: i64,
+    e2: i64,
+    e3: i64,
+    source: &[u8],
+    target: &mut [u8],
+) -> u64
+    ensures { λ r. ⌜ ConvertPromise (convertCall
+        (convertSettings (shapeOf «source_size» depth «source_format») «target_size» «target_format» sampler
+        (now («source_layout» .entry)) (now («target_layout» .entry)) (rotation e0 e1 e2 e3))
+        (now (source .entry)) (now (target .entry)) r
+        (now («source_layout» .exit)) (now («target_layout» .exit)) (now (source .exit)) (now (target .exit))) ⌝ }
 {
-    let size = arithmetic::magnitude(v);
-    if v < 0 { u64::MAX - (size - 1) } else { size }
-}
-
-fn low_byte(v: u64) -> u8
-    ensures { λ r. ⌜ r ≡ v % 256 ⌝ }
-{
-    (v % 256) as u8
-}
-
-// The eight bytes of v from index `at` on, the low one first.
-fn store(buffer: &mut [u8], at: usize, v: u64)
-    requires { ⌜ at + 8 ≤ length (now buffer) ⌝ }
-    ensures { λ _. ⌜ now (buffer .exit) ≡ sets (now (buffer .entry)) at (littleEndian 8 v) ⌝ }
-{
-    let v1 = v / 256;
-    let v2 = v1 / 256;
-    let v3 = v2 / 256;
-    let v4 = v3 / 256;
-    let v5 = v4 / 256;
-    let v6 = v5 / 256;
-    let v7 = v6 / 256;
-    buffer[at] = low_byte(v);
-    buffer[at + 1] = low_byte(v1);
-    buffer[at + 2] = low_byte(v2);
-    buffer[at + 3] = low_byte(v3);
-    buffer[at + 4] = low_byte(v4);
-    buffer[at + 5] = low_byte(v5);
-    buffer[at + 6] = low_byte(v6);
-    buffer[at + 7] = low_byte(v7);
-}
-
-// Number k of the buffer becomes v, where it fits whole.
-fn put(buffer: &mut [u8], k: usize, v: u64)
-    requires { ⌜ k < 4 ⌝ }
-    ensures { λ _. ⌜ now (buffer .exit) ≡ putAt (now (buffer .entry)) k (pos v) ⌝ }
-{
-    if 8 * k + 8 <= buffer.len() {
-        store(buffer, 8 * k, v);
+    let shape = Shape {
+        size: source_size,
+        depth: depth,
+        format: source_format,
+    };
+    let t = Rotation {
+        e0: e0,
+        e1: e1,
+        e2: e2,
+        e3: e3,
+    };
+    let converted = conversion::convert(
+        shape,
+        target_size,
+        target_format,
+        sampler,
+        source_layout,
+        target_layout,
+        t,
+        source,
+        target,
+    );
+    match converted {
+        Converted::Accepted => 0,
+        Converted::Refused(r) => answers::refusal_code(r),
     }
 }
-
-fn put_signed(buffer: &mut [u8], k: usize, v: i64)
-    requires { ⌜ k < 4 ⌝ }
-    ensures { λ _. ⌜ now (buffer .exit) ≡ putAt (now (buffer .entry)) k v ⌝ }
-{
-    put(buffer, k, twos_complement(v));
-}
-
-// ---- the values of each call
-
-fn put_rotation(answer: &mut [u8], t: Rotation)
-    ensures { λ _. ⌜ now (answer .exit) ≡ putAll (now (answer .entry)) 0 (foldValues t) ⌝ }
-{
-    put_signed(answer, 0, t.e0);
-    put_signed(answer, 1, t.e1);
-    put_signed(answer, 2, t.e2);
-    put_signed(answer, 3, t.e3);
-}
-
-fn put_equal(answer: &mut [u8], equal: bool)
-    ensures { λ _. ⌜ now (answer .exit) ≡ putAll (now (answer .entry)) 0 (equalValues equal) ⌝ }
-{
-    if equal {
-        put(answer, 0, 1);
-    } else {
-        put(answer, 0, 0);
-    }
-}
-
-fn put_located(answer: &mut [u8], p: Located)
-    ensures { λ _. ⌜ now (answer .exit) ≡ putAll (now (answer .entry)) 0 (lookUpValues p) ⌝ }
-{
-    put(answer, 0, p.face);
-    put_signed(answer, 1, p.column);
-    put_signed(answer, 2, p.row);
-}
-
-// ---- the code of a refused call: its number plus 256 times the index
-
-fn refusal_code(refused: Refusal) -> u64
-    ensures { λ r. ⌜ r ≡ returnCode (refusal refused) ⌝ }
-{
-    refusals::number(refused) + 256 * refusals::index(refused)
-}
-
-// ---- the calls
 
 // Fold a first and a later turn: four numbers.
 #[no_mangle]
@@ -141,10 +95,10 @@ pub extern "C" fn welchodrys_fold(
     let folded = rotation::fold(first, later);
     match folded {
         Folded::Composed(t) => {
-            put_rotation(answer, t);
+            answers::put_rotation(answer, t);
             0
         }
-        Folded::Refused(r) => refusal_code(r),
+        Folded::Refused(r) => answers::refusal_code(r),
     }
 }
 
@@ -179,10 +133,10 @@ pub extern "C" fn welchodrys_equal(
     let compared = rotation::equal(first, second);
     match compared {
         Compared::Equal(equal) => {
-            put_equal(answer, equal);
+            answers::put_equal(answer, equal);
             0
         }
-        Compared::Refused(r) => refusal_code(r),
+        Compared::Refused(r) => answers::refusal_code(r),
     }
 }
 
@@ -202,9 +156,9 @@ pub extern "C" fn welchodrys_look_up(
     let looked_up = geometry::look_up(size, format, v);
     match looked_up {
         LookedUp::At(p) => {
-            put_located(answer, p);
+            answers::put_located(answer, p);
             0
         }
-        LookedUp::Refused(r) => refusal_code(r),
+        LookedUp::Refused(r) => answers::refusal_code(r),
     }
 }

@@ -42,18 +42,25 @@ module _ (c : tie.After-table4) where
 
 returns : tie.Need-returns
 returns c =
-    let t : tie.After-table4 = c .before .before .before .before in
+    let t : tie.After-table4 = c .before .before .before .before .before in
     (λ i. located (f t .face)
     (position-is t (f t .across) (c .before .before .position .result) (ratios t .across-ok) (search needs) (c .before .before .position .ensures) i)
     (position-is t (f t .down) (c .position2 .result) (ratios t .down-ok) (search needs) (c .position2 .ensures) i))
     ∙ sym (locate-is (t .before .args .format) (t .before .args .size) (t .before .args .v) (f t .face) (f t .across) (f t .down) (f t .distance)
     (t .table4 .ensures))
 
+inverse-requires : tie.Need-inverse-requires
+inverse-requires c κs = ratios c .bounded
+
 position-requires : tie.Need-position-requires
-position-requires c κs = asks (c .before) (f (c .before) .across) (ratios (c .before) .across-ok)
+position-requires c κs =
+    let t : tie.After-table4 = c .before .before in
+    asks t (f t .across) (ratios t .across-ok)
 
 position-requires-2 : tie.Need-position-requires-2
-position-requires-2 c κs = asks (c .before .before .before) (f (c .before .before .before) .down) (ratios (c .before .before .before) .down-ok)
+position-requires-2 c κs =
+    let t : tie.After-table4 = c .before .before .before .before in
+    asks t (f t .down) (ratios t .down-ok)
 
 pub locate-spec : {M : Type 1} → statement M
-locate-spec = tie.close (tie.spec table4-requires position-requires position-requires-2 returns)
+locate-spec = tie.close (tie.spec table4-requires inverse-requires position-requires position-requires-2 returns)

@@ -9,7 +9,7 @@ use borrow.Author.Needs.{needs}
 use Rattle.arithmetic.proofs.Held.{read-result}
 use Rattle.cubemap.specs.Samplers.{clip, rounded}
 use Rattle.cubemap.proofs.Samplers.{cubic-value}
-use Rattle.frame.specs.Steps.{sampleBy}
+use Rattle.indices.specs.Steps.{sampleBy}
 use Rattle.sampling.proofs.cubic.Statement.{statement}
 use Rattle.sampling.proofs.cubic.Tie as tie
 

@@ -11,7 +11,7 @@ use Rattle.cubemap.specs.declared.Place.{Place}
 use Rattle.cubemap.specs.Samplers.{phase, tapAt, tapPlace}
 use Rattle.cubemap.proofs.Positions.{in-range-small}
 use Rattle.cubemap.proofs.Samplers.{tap-from-first, sum-by-rows}
-use Rattle.frame.specs.Steps.{sampleBy}
+use Rattle.indices.specs.Steps.{sampleBy}
 use Rattle.sampling.specs.Taps.{weightsOf, gridSum}
 use Rattle.sampling.proofs.Weighing.{grid-cong}
 use Rattle.sampling.proofs.cubic_sum.Statement.{statement}

@@ -7,7 +7,7 @@ use Rattle.cubemap.specs.Frames.{place, IsPlace}
 use Rattle.cubemap.specs.Samplers.{nearestPlace, nearestColumn}
 use Rattle.cubemap.proofs.Samplers.{nearestPlace-columns, nearestPlace-ok}
 use Rattle.arithmetic.proofs.Held.{read-back}
-use Rattle.frame.specs.Steps.{sampleBy}
+use Rattle.indices.specs.Steps.{sampleBy}
 use Rattle.sampling.proofs.nearest.Statement.{statement}
 use Rattle.sampling.proofs.nearest.Tie as tie
 

@@ -9,8 +9,8 @@ use Rattle.arithmetic.specs.Integers.{natural}
 use Rattle.arithmetic.proofs.Held.{read-result}
 use Rattle.cubemap.specs.Frames.{planeSamples, sampleAt}
 use Rattle.cubemap.proofs.Framed.{sample-part}
-use Rattle.frame.specs.Steps.{stepped}
-use Rattle.frame.proofs.Stepping.{not-negative, plane-small, steps-unbroken}
+use Rattle.indices.specs.Steps.{stepped}
+use Rattle.indices.proofs.Stepping.{not-negative, plane-small, steps-unbroken}
 use Rattle.sampling.proofs.Weighing.{row-cong}
 use Rattle.sampling.proofs.row_by_part.Statement.{statement}
 use Rattle.sampling.proofs.row_by_part.Tie as tie

@@ -8,7 +8,7 @@ use mir.Facts.{toZ-ofZ}
 use borrow.Author.Needs.{needs}
 use Rattle.arithmetic.proofs.Held.{Held, held, held-literal, add-ok, add}
 use Rattle.cubemap.specs.Samplers.{tapPlace}
-use Rattle.frame.specs.Steps.{sampleBy}
+use Rattle.indices.specs.Steps.{sampleBy}
 use Rattle.sampling.proofs.Weighing.{row-of, firstℤ}
 use Rattle.sampling.proofs.row_by_places.Statement.{statement}
 use Rattle.sampling.proofs.row_by_places.Tie as tie

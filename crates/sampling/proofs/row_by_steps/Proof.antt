@@ -2,7 +2,7 @@
 use mathlib.Core.Path.{_∙_, ap}
 use Prim.Native.Nat.{ℕ, _+_}
 use borrow.Author.Needs.{needs}
-use Rattle.frame.specs.Steps.{sampleBySteps}
+use Rattle.indices.specs.Steps.{sampleBySteps}
 use Rattle.sampling.proofs.Weighing.{first, row-of}
 use Rattle.sampling.proofs.row_by_steps.Statement.{statement}
 use Rattle.sampling.proofs.row_by_steps.Tie as tie

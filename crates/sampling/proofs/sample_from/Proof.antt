@@ -5,7 +5,7 @@ use borrow.Author.Needs.{needs}
 use Rattle.cubemap.specs.declared.Place.{Place}
 use Rattle.cubemap.specs.Samplers.{sampleFrom}
 use Rattle.cubemap.proofs.Samplers.{nearest-value}
-use Rattle.frame.specs.Steps.{sampleBy}
+use Rattle.indices.specs.Steps.{sampleBy}
 use Rattle.sampling.proofs.sample_from.Statement.{statement}
 use Rattle.sampling.proofs.sample_from.Tie as tie
 

@@ -4,7 +4,7 @@ use Prim.Native.Nat.{ℕ, _+_, _<_}
 use native.Mathlib.Omega.{arith}
 use lib.IntN.{pos}
 use borrow.Author.Needs.{needs}
-use Rattle.frame.specs.Steps.{SteppedFace, sampleBySteps}
+use Rattle.indices.specs.Steps.{SteppedFace, sampleBySteps}
 use Rattle.sampling.specs.Taps.{Small, rowSum}
 use Rattle.sampling.proofs.Weighing.{first, sum-at, sum-of}
 use Rattle.sampling.proofs.sum_by_parts.Statement.{statement}

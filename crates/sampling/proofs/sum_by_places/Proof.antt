@@ -7,7 +7,7 @@ use mir.Val.{ofZ}
 use borrow.Author.Needs.{needs}
 use Rattle.arithmetic.proofs.Held.{Held, held, held-literal, add-ok, add}
 use Rattle.cubemap.specs.Samplers.{tapPlace}
-use Rattle.frame.specs.Steps.{sampleBy}
+use Rattle.indices.specs.Steps.{sampleBy}
 use Rattle.sampling.specs.Taps.{rowSum}
 use Rattle.sampling.proofs.Weighing.{firstℤ, sum-at₂, sum-of}
 use Rattle.sampling.proofs.sum_by_places.Statement.{statement}

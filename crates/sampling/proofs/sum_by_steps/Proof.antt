@@ -1,7 +1,7 @@
 -- `sum_by_steps` meets its contract: four rows, each by steps.
 use Prim.Native.Nat.{ℕ, _+_}
 use borrow.Author.Needs.{needs}
-use Rattle.frame.specs.Steps.{sampleBySteps}
+use Rattle.indices.specs.Steps.{sampleBySteps}
 use Rattle.sampling.specs.Taps.{rowSum}
 use Rattle.sampling.proofs.Weighing.{first, sum-at, sum-of}
 use Rattle.sampling.proofs.sum_by_steps.Statement.{statement}

@@ -9,8 +9,8 @@ use mir.Val.{toZ, ofZ}
 use borrow.Author.Needs.{needs}
 use Rattle.arithmetic.proofs.Tests.{and-left, and-right, passes}
 use Rattle.arithmetic.proofs.Held.{Held, held, read-result}
-use Rattle.frame.specs.Steps.{SteppedFace, sampleBySteps, sampleBy}
-use Rattle.frame.proofs.Stepping.{face-of}
+use Rattle.indices.specs.Steps.{SteppedFace, sampleBySteps, sampleBy}
+use Rattle.indices.proofs.Stepping.{face-of}
 use Rattle.sampling.specs.Taps.{gridSum, tapped}
 use Rattle.sampling.proofs.Weighing.{IsSum, grid-cong, sum-at₂, Inside, inside, inside-cast, tap-inside}
 use Rattle.sampling.proofs.sum_from.Statement.{statement}

@@ -3,7 +3,7 @@ use mathlib.Core.Path.{_∙_, ap, ap₂}
 use mir.Facts.{toZ-ofZ}
 use borrow.Author.Needs.{needs}
 use Rattle.cubemap.specs.Samplers.{tapPlace}
-use Rattle.frame.specs.Steps.{sampleBy}
+use Rattle.indices.specs.Steps.{sampleBy}
 use Rattle.sampling.proofs.tap.Statement.{statement}
 use Rattle.sampling.proofs.tap.Tie as tie
 

@@ -1,4 +1,4 @@
-//! A call with its arguments, made of the library and of the reference.
+//! A call that writes an answer, with its arguments, made of the library and of the reference.
 
 use reference::calls;
 

@@ -1,4 +1,4 @@
-//! The calls that are compared.
+//! The calls of fold, equality and look-up that are compared.
 
 use crate::call::Call;
 use crate::comparison::Comparison;
@@ -9,7 +9,7 @@ use reference::rotations::product;
 
 /// Numbers that no turn may have; some are in range once cut to 32, 16 or 8 bits.
 #[rustfmt::skip]
-const FAR: [i64; 20] = [
+pub const FAR: [i64; 20] = [
     32, -32, 33, -33, 255, 1 << 8, -(1 << 8), 1 << 16, 1 << 31, -(1 << 31), (1 << 32) - 1, 1 << 32, -(1 << 32), 1 << 62, -(1 << 62),
     i64::MIN, i64::MIN + 1, i64::MIN + 31, i64::MAX, i64::MAX - 31,
 ];
@@ -41,7 +41,7 @@ fn equal_call(first: Rotation, second: Rotation) -> Call {
 }
 
 /// Four numbers in range, now and then all zero.
-fn rotation(random: &mut Random) -> Rotation {
+pub fn rotation(random: &mut Random) -> Rotation {
     let size = random.pick(&[1, 2, 3, 5, 7, 31]);
     match random.below(4) {
         0 => [0; 4].map(|_| random.within(size)),

@@ -1,15 +1,16 @@
 //! Which cases occurred, and those that must.
 
 use crate::call::Call;
+use crate::convert_coverage;
 use reference::positions::{self, Format, OnFace};
 use reference::random::LARGEST_RAY;
 use reference::rotations;
 use std::collections::BTreeMap;
 
 /// A case: the call's name, what happened, and where or with which number.
-type Case = (&'static str, &'static str, i128);
+pub type Case = (&'static str, &'static str, i128);
 
-/// The answer lengths that every call is made with.
+/// The answer lengths that every call that writes an answer is made with.
 pub fn answer_lengths() -> impl Iterator<Item = usize> {
     (0..=40).chain([64, 4096])
 }
@@ -52,7 +53,8 @@ impl Coverage {
         }
     }
 
-    fn add(&mut self, name: &'static str, event: &'static str, detail: i128) {
+    /// Notes that a case occurred.
+    pub fn add(&mut self, name: &'static str, event: &'static str, detail: i128) {
         *self.seen.entry((name, event, detail)).or_default() += 1;
     }
 
@@ -171,7 +173,8 @@ impl Coverage {
 
     /// The cases that must occur and did not.
     pub fn missing(&self) -> Vec<Case> {
-        wanted().into_iter().filter(|case| !self.seen.contains_key(case)).collect()
+        let wanted = [wanted(), convert_coverage::wanted()].concat();
+        wanted.into_iter().filter(|case| !self.seen.contains_key(case)).collect()
     }
 }
 

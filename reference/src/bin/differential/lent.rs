@@ -19,28 +19,31 @@ const SIGSEGV: c_int = 11;
 /// A multiple of every usual page size.
 const BLOCK: usize = 65_536;
 
-/// One block to lend, with a forbidden block in front and one behind.
+/// Blocks to lend, with a forbidden block in front and one behind.
 pub struct Lent {
     start: *mut u8,
+    bytes: usize,
 }
 
 impl Lent {
-    pub fn new() -> Lent {
+    /// Memory of which so many bytes can be lent, or a few more.
+    pub fn new(least: usize) -> Lent {
+        let bytes = least.next_multiple_of(BLOCK);
         // SAFETY: a mapping of its own, tested before use and kept until the program ends.
         unsafe {
-            let whole = mmap(std::ptr::null_mut(), 3 * BLOCK, PROT_NONE, MAP_PRIVATE | MAP_ANONYMOUS, -1, 0);
+            let whole = mmap(std::ptr::null_mut(), bytes + 2 * BLOCK, PROT_NONE, MAP_PRIVATE | MAP_ANONYMOUS, -1, 0);
             assert!(whole as isize != -1, "mmap failed");
             let start = whole.cast::<u8>().add(BLOCK);
-            assert_eq!(mprotect(start.cast(), BLOCK, PROT_READ | PROT_WRITE), 0, "mprotect failed");
-            Lent { start }
+            assert_eq!(mprotect(start.cast(), bytes, PROT_READ | PROT_WRITE), 0, "mprotect failed");
+            Lent { start, bytes }
         }
     }
 
-    /// The last `length` bytes of the block.
+    /// The last `length` bytes of the blocks.
     pub fn last(&mut self, length: usize) -> &mut [u8] {
-        assert!(length <= BLOCK);
-        // SAFETY: the slice lies in the block that may be read and written, and borrows the only handle to it.
-        unsafe { std::slice::from_raw_parts_mut(self.start.add(BLOCK - length), length) }
+        assert!(length <= self.bytes);
+        // SAFETY: the slice lies in the blocks that may be read and written, and borrows the only handle to them.
+        unsafe { std::slice::from_raw_parts_mut(self.start.add(self.bytes - length), length) }
     }
 }
 

@@ -1,14 +1,20 @@
-//! Compares libwelchodrys.a with the reference, call by call: the returned code and every byte of the answer buffer, which holds
-//! random bytes before the call and ends at a forbidden page. The seed of the random numbers may be given as the argument.
+//! Compares libwelchodrys.a with the reference, call by call: the returned code and every byte of each lent buffer. Each ends at a
+//! forbidden page, and those that a call may write hold random bytes before it. The seed of the random numbers may be given as the
+//! argument.
 
 mod call;
 mod cases;
 mod comparison;
+mod convert;
+mod convert_cases;
+mod convert_coverage;
 mod coverage;
+mod damage;
 mod lent;
 
 use call::Call;
 use comparison::Comparison;
+use convert::ConvertCall;
 use reference::random::Random;
 use std::process::ExitCode;
 
@@ -25,12 +31,13 @@ fn main() -> ExitCode {
     cases::folds(&mut comparison);
     cases::equalities(&mut comparison);
     cases::look_ups(&mut comparison);
+    convert_cases::conversions(&mut comparison);
     report(&comparison)
 }
 
 fn report(comparison: &Comparison) -> ExitCode {
     let coverage = &comparison.coverage;
-    for name in Call::NAMES {
+    for name in Call::NAMES.into_iter().chain([ConvertCall::NAME]) {
         let returned = coverage.returned(name);
         let compared: u64 = returned.iter().map(|(_, count)| count).sum();
         let parts = returned.iter().map(|(number, count)| match number {
@@ -47,6 +54,7 @@ fn report(comparison: &Comparison) -> ExitCode {
         "among them {} halves in CMP and {} in ACP, {ties} rays with ties, {short} short answer buffers",
         halves[0], halves[1]
     );
+    convert_coverage::report(coverage);
     let missing = coverage.missing();
     for (name, event, detail) in &missing {
         println!("this case did not occur: {name}, {event} {detail}");

@@ -1,0 +1,197 @@
+/*
+ * Straightforward: what a maker would write first. The target's samples are computed in the order of their indices, each by
+ * itself, step by step as the formulas stand; only the turn's matrix and the slots of the faces are found once a call.
+ */
+#include "double_precision.h"
+#include "welchodrys.h"
+
+#include <math.h>
+
+struct ray {
+    double x, y, z;
+};
+
+/* A position on a source face, in samples, rounded to 64ths of one. */
+struct position {
+    int face;
+    double column, row;
+};
+
+/* What stays the same for all samples of a conversion. */
+struct setting {
+    const struct conversion *conversion;
+    const uint8_t *source;
+    double matrix[3][3];
+    int slot_of_face[6];
+};
+
+static int clip(int number, int largest)
+{
+    return number < 0 ? 0 : number > largest ? largest : number;
+}
+
+/* The turn's matrix, divided by the sum of the four squares. */
+static void set_matrix(const int turn[4], double matrix[3][3])
+{
+    const double e0 = turn[0], e1 = turn[1], e2 = turn[2], e3 = turn[3];
+    const double squares = e0 * e0 + e1 * e1 + e2 * e2 + e3 * e3;
+    const double rows[3][3] = {
+        {e0 * e0 + e1 * e1 - e2 * e2 - e3 * e3, 2 * (e1 * e2 - e0 * e3), 2 * (e1 * e3 + e0 * e2)},
+        {2 * (e1 * e2 + e0 * e3), e0 * e0 - e1 * e1 + e2 * e2 - e3 * e3, 2 * (e2 * e3 - e0 * e1)},
+        {2 * (e1 * e3 - e0 * e2), 2 * (e2 * e3 + e0 * e1), e0 * e0 - e1 * e1 - e2 * e2 + e3 * e3},
+    };
+    for (int i = 0; i < 3; i++)
+        for (int j = 0; j < 3; j++)
+            matrix[i][j] = rows[i][j] / squares;
+}
+
+/* Where the middle of a column or row lies on a face, from -1 to 1; in ACP by equation 12. */
+static double coordinate(const struct conversion *conversion, int number)
+{
+    const double plain = (2 * number + 1) / (double)conversion->size - 1;
+    if (conversion->format == WELCHODRYS_CMP)
+        return plain;
+    return copysign((0.34 - sqrt(0.34 * 0.34 - 0.09 * fabs(plain))) / 0.18, plain);
+}
+
+/* The ray of a place on a face (Table 3). */
+static struct ray ray_of(int face, double a, double b)
+{
+    switch (face) {
+    case 0: return (struct ray){1, -b, -a};
+    case 1: return (struct ray){-1, -b, a};
+    case 2: return (struct ray){a, 1, b};
+    case 3: return (struct ray){a, -1, -b};
+    case 4: return (struct ray){a, -b, 1};
+    default: return (struct ray){-a, -b, -1};
+    }
+}
+
+static struct ray turned(const double matrix[3][3], struct ray ray)
+{
+    return (struct ray){
+        matrix[0][0] * ray.x + matrix[0][1] * ray.y + matrix[0][2] * ray.z,
+        matrix[1][0] * ray.x + matrix[1][1] * ray.y + matrix[1][2] * ray.z,
+        matrix[2][0] * ray.x + matrix[2][1] * ray.y + matrix[2][2] * ray.z,
+    };
+}
+
+/* From -1 to 1 across a face to samples, rounded to 64ths; in ACP by equation 14. */
+static double position_on_face(const struct conversion *conversion, double u)
+{
+    const double g = conversion->format == WELCHODRYS_CMP ? u : u * (1.36 - 0.36 * fabs(u));
+    const double position = conversion->size * (g + 1) / 2 - 0.5;
+    return floor(position * 64 + 0.5) / 64;
+}
+
+/* Where a ray meets the cube (Table 4). */
+static struct position position_of(const struct conversion *conversion, struct ray ray)
+{
+    const double x = fabs(ray.x), y = fabs(ray.y), z = fabs(ray.z);
+    int face;
+    double u, v;
+    if (x >= y && x >= z) {
+        face = ray.x > 0 ? 0 : 1;
+        u = (ray.x > 0 ? -ray.z : ray.z) / x;
+        v = -ray.y / x;
+    } else if (y >= z) {
+        face = ray.y > 0 ? 2 : 3;
+        u = ray.x / y;
+        v = (ray.y > 0 ? ray.z : -ray.z) / y;
+    } else {
+        face = ray.z > 0 ? 4 : 5;
+        u = (ray.z > 0 ? ray.x : -ray.x) / z;
+        v = -ray.y / z;
+    }
+    return (struct position){face, position_on_face(conversion, u), position_on_face(conversion, v)};
+}
+
+/* The source's sample at column m and row n of a face, which the layout puts into a slot after clockwise quarter turns. */
+static int sample_at(const struct setting *setting, int face, int m, int n)
+{
+    const int size = setting->conversion->size, last = size - 1;
+    const int slot = setting->slot_of_face[face];
+    int column = m, row = n;
+    switch (setting->conversion->layout[6 + slot]) {
+    case 1: column = last - n, row = m; break;
+    case 2: column = last - m, row = last - n; break;
+    case 3: column = n, row = last - m; break;
+    default: break;
+    }
+    const int index = (slot / 3 * size + row) * 3 * size + slot % 3 * size + column;
+    return setting->source[2 * index] | setting->source[2 * index + 1] << 8;
+}
+
+static int nearest(const struct setting *setting, struct position at)
+{
+    const int last = setting->conversion->size - 1;
+    const int column = (int)floor(at.column + 0.5), row = (int)floor(at.row + 0.5);
+    return sample_at(setting, at.face, clip(column, last), clip(row, last));
+}
+
+/* The weights of four taps in a line, for a position that lies `phase` behind the second. */
+static void set_weights(double phase, double weights[4])
+{
+    const double square = phase * phase, cube = square * phase;
+    weights[0] = -0.5 * cube + square - 0.5 * phase;
+    weights[1] = 1.5 * cube - 2.5 * square + 1;
+    weights[2] = -1.5 * cube + 2 * square + 0.5 * phase;
+    weights[3] = 0.5 * cube - 0.5 * square;
+}
+
+static int cubic(const struct setting *setting, struct position at)
+{
+    const int last = setting->conversion->size - 1;
+    const int column = (int)floor(at.column), row = (int)floor(at.row);
+    double across[4], down[4];
+    set_weights(at.column - column, across);
+    set_weights(at.row - row, down);
+
+    double sum = 0;
+    for (int i = 0; i < 4; i++)
+        for (int j = 0; j < 4; j++)
+            sum += down[i] * across[j] * sample_at(setting, at.face, clip(column - 1 + j, last), clip(row - 1 + i, last));
+    return clip((int)floor(sum + 0.5), (1 << setting->conversion->depth) - 1);
+}
+
+/* The target's value at column m and row n of a face. */
+static int value_on_face(const struct setting *setting, int face, int m, int n)
+{
+    const struct conversion *conversion = setting->conversion;
+    const struct ray ray = ray_of(face, coordinate(conversion, m), coordinate(conversion, n));
+    const struct position at = position_of(conversion, turned(setting->matrix, ray));
+    return conversion->sampler == WELCHODRYS_NEAREST ? nearest(setting, at) : cubic(setting, at);
+}
+
+/* The target's value at a column and a row of the frame, which undoes the quarter turns of the slot there. */
+static int value_in_frame(const struct setting *setting, int frame_column, int frame_row)
+{
+    const int size = setting->conversion->size, last = size - 1;
+    const int slot = frame_row / size * 3 + frame_column / size;
+    const int column = frame_column % size, row = frame_row % size;
+    int m = column, n = row;
+    switch (setting->conversion->layout[6 + slot]) {
+    case 1: m = row, n = last - column; break;
+    case 2: m = last - column, n = last - row; break;
+    case 3: m = last - row, n = column; break;
+    default: break;
+    }
+    return value_on_face(setting, setting->conversion->layout[slot], m, n);
+}
+
+void convert_straightforward(const struct conversion *conversion, const uint8_t *source, uint8_t *target)
+{
+    struct setting setting = {.conversion = conversion, .source = source};
+    set_matrix(conversion->turn, setting.matrix);
+    for (int slot = 0; slot < 6; slot++)
+        setting.slot_of_face[conversion->layout[slot]] = slot;
+
+    const int columns = 3 * conversion->size, rows = 2 * conversion->size;
+    for (int row = 0; row < rows; row++)
+        for (int column = 0; column < columns; column++) {
+            const int value = value_in_frame(&setting, column, row);
+            const int index = row * columns + column;
+            target[2 * index] = (uint8_t)(value & 255);
+            target[2 * index + 1] = (uint8_t)(value >> 8);
+        }
+}

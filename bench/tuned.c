@@ -1,0 +1,231 @@
+/*
+ * Tuned by hand: the formulas of straightforward.c, with what can be found ahead found once a call. The coordinates are in a table,
+ * each face has a base and two steps into the frame, samples are loaded and stored as 16 bits, and positions are whole 64ths, so
+ * that nothing calls floor(). This machine is taken to be little-endian, as frames are.
+ */
+#include "double_precision.h"
+#include "welchodrys.h"
+
+#include <math.h>
+#include <stddef.h>
+
+enum { LARGEST_FACE_SIZE = 512 /* that of welchodrys_convert */ };
+
+struct ray {
+    double x, y, z;
+};
+
+/* A position on a source face; column and row are in 64ths of a sample, as a look-up gives them. */
+struct position {
+    int face, column, row;
+};
+
+/* The sample at a face's column m and row n has the index base + m * across + n * down. */
+struct steps {
+    ptrdiff_t base, across, down;
+};
+
+/* What stays the same for all samples of a conversion. */
+struct setting {
+    const struct conversion *conversion;
+    const uint16_t *source;
+    uint16_t *target;
+    double matrix[3][3];
+    double coordinates[LARGEST_FACE_SIZE];
+    struct steps steps[6];
+};
+
+static int clip(int number, int largest)
+{
+    return number < 0 ? 0 : number > largest ? largest : number;
+}
+
+/* The turn's matrix, divided by the sum of the four squares. */
+static void set_matrix(const int turn[4], double matrix[3][3])
+{
+    const double e0 = turn[0], e1 = turn[1], e2 = turn[2], e3 = turn[3];
+    const double squares = e0 * e0 + e1 * e1 + e2 * e2 + e3 * e3;
+    const double rows[3][3] = {
+        {e0 * e0 + e1 * e1 - e2 * e2 - e3 * e3, 2 * (e1 * e2 - e0 * e3), 2 * (e1 * e3 + e0 * e2)},
+        {2 * (e1 * e2 + e0 * e3), e0 * e0 - e1 * e1 + e2 * e2 - e3 * e3, 2 * (e2 * e3 - e0 * e1)},
+        {2 * (e1 * e3 - e0 * e2), 2 * (e2 * e3 + e0 * e1), e0 * e0 - e1 * e1 - e2 * e2 + e3 * e3},
+    };
+    for (int i = 0; i < 3; i++)
+        for (int j = 0; j < 3; j++)
+            matrix[i][j] = rows[i][j] / squares;
+}
+
+/* Where the middle of each column or row lies on a face, from -1 to 1; in ACP by equation 12. */
+static void set_coordinates(int format, int size, double coordinates[LARGEST_FACE_SIZE])
+{
+    for (int i = 0; i < size; i++) {
+        const double plain = (2 * i + 1 - size) / (double)size;
+        const double curved = (0.34 - sqrt(0.34 * 0.34 - 0.09 * fabs(plain))) / 0.18;
+        coordinates[i] = format == WELCHODRYS_CMP ? plain : copysign(curved, plain);
+    }
+}
+
+/* A face's steps in a slot whose top left sample has the index `corner`, after clockwise quarter turns. */
+static struct steps steps_in_slot(ptrdiff_t size, ptrdiff_t corner, int turns)
+{
+    const ptrdiff_t line = 3 * size, last = size - 1;
+    switch (turns) {
+    case 0: return (struct steps){corner, 1, line};
+    case 1: return (struct steps){corner + last, line, -1};
+    case 2: return (struct steps){corner + last * line + last, -1, -line};
+    default: return (struct steps){corner + last * line, -line, 1};
+    }
+}
+
+static ptrdiff_t corner_of(ptrdiff_t size, int slot)
+{
+    return slot / 3 * size * 3 * size + slot % 3 * size;
+}
+
+static void set_steps(int size, const uint8_t *layout, struct steps steps[6])
+{
+    for (int slot = 0; slot < 6; slot++)
+        steps[layout[slot]] = steps_in_slot(size, corner_of(size, slot), layout[6 + slot]);
+}
+
+/* The ray of a place on a face (Table 3). */
+static struct ray ray_of(int face, double a, double b)
+{
+    switch (face) {
+    case 0: return (struct ray){1, -b, -a};
+    case 1: return (struct ray){-1, -b, a};
+    case 2: return (struct ray){a, 1, b};
+    case 3: return (struct ray){a, -1, -b};
+    case 4: return (struct ray){a, -b, 1};
+    default: return (struct ray){-a, -b, -1};
+    }
+}
+
+static struct ray turned(const double matrix[3][3], struct ray ray)
+{
+    return (struct ray){
+        matrix[0][0] * ray.x + matrix[0][1] * ray.y + matrix[0][2] * ray.z,
+        matrix[1][0] * ray.x + matrix[1][1] * ray.y + matrix[1][2] * ray.z,
+        matrix[2][0] * ray.x + matrix[2][1] * ray.y + matrix[2][2] * ray.z,
+    };
+}
+
+/* From -1 to 1 across a face to 64ths of a sample, in ACP by equation 14. What is cast is not negative, so it is rounded down. */
+static int position64(const struct conversion *conversion, double u)
+{
+    const double g = conversion->format == WELCHODRYS_CMP ? u : u * (1.36 - 0.36 * fabs(u));
+    return (int)(32 * conversion->size * (g + 1) + 0.5) - 32;
+}
+
+/* Where a ray meets the cube (Table 4). */
+static struct position position_of(const struct conversion *conversion, struct ray ray)
+{
+    const double x = fabs(ray.x), y = fabs(ray.y), z = fabs(ray.z);
+    int face;
+    double u, v;
+    if (x >= y && x >= z) {
+        face = ray.x > 0 ? 0 : 1;
+        u = (ray.x > 0 ? -ray.z : ray.z) / x;
+        v = -ray.y / x;
+    } else if (y >= z) {
+        face = ray.y > 0 ? 2 : 3;
+        u = ray.x / y;
+        v = (ray.y > 0 ? ray.z : -ray.z) / y;
+    } else {
+        face = ray.z > 0 ? 4 : 5;
+        u = (ray.z > 0 ? ray.x : -ray.x) / z;
+        v = -ray.y / z;
+    }
+    return (struct position){face, position64(conversion, u), position64(conversion, v)};
+}
+
+static int nearest(const struct setting *setting, struct position at)
+{
+    const struct steps steps = setting->steps[at.face];
+    const int last = setting->conversion->size - 1;
+    const int column = clip((at.column + 32) >> 6, last), row = clip((at.row + 32) >> 6, last);
+    return setting->source[steps.base + column * steps.across + row * steps.down];
+}
+
+/* The weights of four taps in a line, for a position that lies `phase` behind the second. */
+static void set_weights(double phase, double weights[4])
+{
+    weights[0] = ((-0.5 * phase + 1) * phase - 0.5) * phase;
+    weights[1] = (1.5 * phase - 2.5) * phase * phase + 1;
+    weights[2] = ((-1.5 * phase + 2) * phase + 0.5) * phase;
+    weights[3] = (0.5 * phase - 0.5) * phase * phase;
+}
+
+static int rounded_to_depth(double value, int depth)
+{
+    const int largest = (1 << depth) - 1;
+    return value <= 0 ? 0 : value >= largest ? largest : (int)(value + 0.5);
+}
+
+/* The shifts round down below zero too, as every C compiler of today has them. */
+static int cubic(const struct setting *setting, struct position at)
+{
+    const struct steps steps = setting->steps[at.face];
+    const int last = setting->conversion->size - 1;
+    const int column = at.column >> 6, row = at.row >> 6;
+    double across[4], down[4];
+    set_weights((at.column & 63) / 64.0, across);
+    set_weights((at.row & 63) / 64.0, down);
+
+    ptrdiff_t columns[4];
+    for (int j = 0; j < 4; j++)
+        columns[j] = clip(column - 1 + j, last) * steps.across;
+
+    double sum = 0;
+    for (int i = 0; i < 4; i++) {
+        const ptrdiff_t start = steps.base + clip(row - 1 + i, last) * steps.down;
+        double line = 0;
+        for (int j = 0; j < 4; j++)
+            line += across[j] * setting->source[start + columns[j]];
+        sum += down[i] * line;
+    }
+    return rounded_to_depth(sum, setting->conversion->depth);
+}
+
+/* The value of the target at a place of a face. */
+static int value_at(const struct setting *setting, int face, int m, int n)
+{
+    const struct ray ray = turned(setting->matrix, ray_of(face, setting->coordinates[m], setting->coordinates[n]));
+    const struct position at = position_of(setting->conversion, ray);
+    return setting->conversion->sampler == WELCHODRYS_NEAREST ? nearest(setting, at) : cubic(setting, at);
+}
+
+/* The value of the target at a column and a row of a slot, which undoes the slot's quarter turns. */
+static int value_in_slot(const struct setting *setting, int slot, int column, int row)
+{
+    const int last = setting->conversion->size - 1;
+    int m = column, n = row;
+    switch (setting->conversion->layout[6 + slot]) {
+    case 1: m = row, n = last - column; break;
+    case 2: m = last - column, n = last - row; break;
+    case 3: m = last - row, n = column; break;
+    default: break;
+    }
+    return value_at(setting, setting->conversion->layout[slot], m, n);
+}
+
+/* The rows of a slot lie unbroken in the frame, whatever its turn. */
+static void fill_slot(const struct setting *setting, int slot)
+{
+    const int size = setting->conversion->size;
+    for (int row = 0; row < size; row++) {
+        const ptrdiff_t start = corner_of(size, slot) + row * (ptrdiff_t)(3 * size);
+        for (int column = 0; column < size; column++)
+            setting->target[start + column] = (uint16_t)value_in_slot(setting, slot, column, row);
+    }
+}
+
+void convert_tuned(const struct conversion *conversion, const uint8_t *source, uint8_t *target)
+{
+    struct setting setting = {.conversion = conversion, .source = (const uint16_t *)source, .target = (uint16_t *)target};
+    set_matrix(conversion->turn, setting.matrix);
+    set_coordinates(conversion->format, conversion->size, setting.coordinates);
+    set_steps(conversion->size, conversion->layout, setting.steps);
+    for (int slot = 0; slot < 6; slot++)
+        fill_slot(&setting, slot);
+}

@@ -1,0 +1,59 @@
+-- `run` meets its contract: what is lent of a frame lies in its array.
+use native.Mathlib.Omega.{arith}
+use lib.ListN.{length-take}
+use borrow.Author.Needs.{needs}
+use Rattle.conformance.proofs.run.Statement.{statement}
+use Rattle.conformance.proofs.run.Tie as tie
+
+frame-bytes-requires : tie.Need-frame-bytes-requires
+frame-bytes-requires c κs = search needs
+
+fill-source-requires : tie.Need-fill-source-requires
+fill-source-requires c κs = search needs
+
+lent-requires : tie.Need-lent-requires
+lent-requires c κs = search needs
+
+lent-requires-2 : tie.Need-lent-requires-2
+lent-requires-2 c κs = search needs
+
+slice-reshare-prefix-convert : tie.Need-slice-reshare-prefix-convert
+slice-reshare-prefix-convert c = search needs
+
+slice-aggregate-convert : tie.Need-slice-aggregate-convert
+slice-aggregate-convert c = simp length-take (omega arith)
+
+slice-relend-prefix-convert : tie.Need-slice-relend-prefix-convert
+slice-relend-prefix-convert c = search needs
+
+slice-aggregate-convert-2 : tie.Need-slice-aggregate-convert-2
+slice-aggregate-convert-2 c = simp length-take (omega arith)
+
+convert-requires : tie.Need-convert-requires
+convert-requires c κs = search needs
+
+same-length : tie.Need-same-length
+same-length c = search needs
+
+same-length-2 : tie.Need-same-length-2
+same-length-2 c = search needs
+
+returns : tie.Need-returns
+returns c = search needs
+
+pub run-spec : {M : Type 1} → statement M
+run-spec =
+    tie.close
+    (tie.spec
+    frame-bytes-requires
+    fill-source-requires
+    lent-requires
+    lent-requires-2
+    slice-reshare-prefix-convert
+    slice-aggregate-convert
+    slice-relend-prefix-convert
+    slice-aggregate-convert-2
+    convert-requires
+    same-length
+    same-length-2
+    returns)

@@ -1,0 +1,170 @@
+-- Base and steps of a face in its slot, turned 0 to 3 times, lead to the index of each of its columns and rows.
+use mathlib.Core.Path.{_≡_, sym, _∙_, ap, subst}
+use mathlib.Core.List.{List, [], _∷_}
+use Prim.Native.Nat.{ℕ, _+_, _*_, _-_, _/_, _%_, _≤_, _<_}
+use native.Mathlib.Nat.{mul-le-mul}
+use native.Mathlib.Omega.{arith}
+use lib.ListN.{length}
+use lib.IntN.{ℤ, pos, negℤ, _+ℤ_, _*ℤ_}
+use lib.Dec.{T}
+use lib.Signed.{nonNeg}
+use Rattle.arithmetic.specs.Integers.{natural}
+use Rattle.arithmetic.proofs.Sizes.{pos-inj, natAbs-neg}
+use Rattle.arithmetic.proofs.Ring.{var, con, _⊕_, _⊗_, ⊖, solve}
+use Rattle.cubemap.specs.declared.Place.{Place}
+use Rattle.cubemap.specs.Frames.{place, IsPlace, index, sampleAt, sampleAtPlace}
+use Rattle.cubemap.specs.Frames.{planeSamples, spot, quarterTurns, indexInSlot}
+use Rattle.cubemap.proofs.Indices.{Within, quarterTurns-within, no-turn, one-turn, two-turns, three-turns, slot-index, index-below}
+use Rattle.indices.specs.declared.FaceSteps.{FaceSteps}
+use Rattle.indices.specs.Steps.{stepped, Steps, stepsIn, LeadsTo, SteppedFace, SteppedPlane, sampleBy}
+
+abbrev pub steps : ℤ → ℤ → ℤ → FaceSteps
+steps base across down = record { base = base; across = across; down = down }
+
+-- the same three numbers
+pub same-steps : {A : ℕ} {at : ℕ → ℕ → ℕ} {b d e x y z : ℤ} → b ≡ x → d ≡ y → e ≡ z → Steps A (steps x y z) at → Steps A (steps b d e) at
+same-steps {A} {at} p q r w = subst (λ t. Steps A t at) (λ i. steps (sym p i) (sym q i) (sym r i)) w
+
+-- n steps of w back
+back : (y n w : ℕ) → pos (y + n * w) +ℤ pos n *ℤ negℤ (pos w) ≡ pos y
+back y n w = solve (pos y ∷ pos n ∷ pos w ∷ []) (var 0 ⊕ var 1 ⊗ var 2 ⊕ var 1 ⊗ ⊖ (var 2)) (var 0) tt
+
+from-back : {x y : ℕ} (n w : ℕ) → x ≡ y + n * w → pos x +ℤ pos n *ℤ negℤ (pos w) ≡ pos y
+from-back {y = y} n w e = ap (λ x. pos x +ℤ pos n *ℤ negℤ (pos w)) e ∙ back y n w
+
+pub plane-small : (A : ℕ) → A ≤ 512 → planeSamples A ≤ 1572864
+plane-small A h = omega (arith, mul-le-mul h h)
+
+module _ (A slot : ℕ) (a : 1 ≤ A) (b : A ≤ 512) (h : slot < 6) where
+  -- the index of the slot's first sample
+  abbrev pub corner : ℕ
+  corner = slot / 3 * A * (3 * A) + slot % 3 * A
+
+  last-within : Within A (spot (A - 1) (A - 1))
+  last-within = record { column-ok = omega arith; row-ok = omega arith }
+
+  -- and of its last
+  pub last-below : corner + (A - 1) * (3 * A) + (A - 1) < 1572864
+  last-below = omega (
+    arith,
+    index-below A slot (spot (A - 1) (A - 1)) h last-within,
+    slot-index A slot (A - 1) (A - 1),
+    plane-small A b,
+  )
+
+  -- the rows of a slot below and above its row n
+  rows-above : (w n : ℕ) → n < A → (A - 1) * w ≡ (A - 1 - n) * w + n * w
+  rows-above w n p = ap (λ k. k * w) (split n p) ∙ omega arith
+    where
+      split : (n : ℕ) → n < A → A - 1 ≡ A - 1 - n + n
+      split n p = omega arith
+
+  turned-below : (k m n : ℕ) → m < A → n < A → indexInSlot A slot (quarterTurns A k (spot m n)) < planeSamples A
+  turned-below k m n p q = index-below A slot (quarterTurns A k (spot m n)) h
+      (quarterTurns-within A k (spot m n) (record { column-ok = p; row-ok = q }))
+
+  -- the index of column x and row y of the slot, where m and n come after k turns
+  abbrev at : ℕ → ℕ → ℕ
+  at x y = (slot / 3 * A + y) * (3 * A) + (slot % 3 * A + x)
+
+  turned : (k m n x y : ℕ) → quarterTurns A k (spot m n) ≡ spot x y → pos (at x y) ≡ pos (indexInSlot A slot (quarterTurns A k (spot m n)))
+  turned k m n x y e = ap pos (sym (ap (indexInSlot A slot) e ∙ slot-index A slot x y))
+
+  -- the four ways that a slot is turned
+  pub steps-0 : Steps A (steps (pos corner) (pos 1) (pos (3 * A))) (λ m n. indexInSlot A slot (quarterTurns A 0 (spot m n)))
+  steps-0 = record {
+    base-small = omega (arith, last-below);
+    across-small = omega arith;
+    down-small = omega arith;
+    gives = λ m n p q. ap pos (along m n) ∙ turned 0 m n m n (no-turn A (spot m n));
+    below = turned-below 0;
+  }
+    where
+      along : (m n : ℕ) → corner + m * 1 + n * (3 * A) ≡ at m n
+      along m n = omega arith
+
+  pub steps-1 : Steps A (steps (pos (corner + (A - 1))) (pos (3 * A)) (negℤ (pos 1))) (λ m n. indexInSlot A slot (quarterTurns A 1 (spot m n)))
+  steps-1 = record {
+    base-small = omega (arith, last-below);
+    across-small = omega arith;
+    down-small = omega arith;
+    gives = λ m n p q. from-back {y = at (A - 1 - n) m} n 1 (omega arith) ∙ turned 1 m n (A - 1 - n) m (one-turn A (spot m n));
+    below = turned-below 1;
+  }
+
+  pub steps-2 : Steps A (steps (pos (corner + (A - 1) * (3 * A) + (A - 1))) (negℤ (pos 1)) (negℤ (pos (3 * A))))
+      (λ m n. indexInSlot A slot (quarterTurns A 2 (spot m n)))
+  steps-2 = record {
+    base-small = omega (arith, last-below);
+    across-small = omega arith;
+    down-small = omega (arith, natAbs-neg (pos (3 * A)));
+    gives = λ m n p q.
+        ap (λ z. z +ℤ pos n *ℤ negℤ (pos (3 * A)))
+        (from-back {y = at (A - 1 - m) (A - 1 - n) + n * (3 * A)} m 1 (omega (arith, rows-above (3 * A) n q)))
+        ∙ back (at (A - 1 - m) (A - 1 - n)) n (3 * A)
+        ∙ turned 2 m n (A - 1 - m) (A - 1 - n) (two-turns A (spot m n));
+    below = turned-below 2;
+  }
+
+  pub steps-3 : Steps A (steps (pos (corner + (A - 1) * (3 * A))) (negℤ (pos (3 * A))) (pos 1))
+      (λ m n. indexInSlot A slot (quarterTurns A 3 (spot m n)))
+  steps-3 = record {
+    base-small = omega (arith, last-below);
+    across-small = omega (arith, natAbs-neg (pos (3 * A)));
+    down-small = omega arith;
+    gives = λ m n p q.
+        ap (λ z. z +ℤ pos (n * 1)) (from-back {y = at 0 (A - 1 - m)} m (3 * A) (omega (arith, rows-above (3 * A) m p)))
+        ∙ ap pos (beside m n)
+        ∙ turned 3 m n n (A - 1 - m) (three-turns A (spot m n) (record { column-ok = p; row-ok = q }));
+    below = turned-below 3;
+  }
+    where
+      beside : (m n : ℕ) → at 0 (A - 1 - m) + n * 1 ≡ at n (A - 1 - m)
+      beside m n = omega arith
+
+-- ---- steps to an index
+
+pub steps-cong : {A : ℕ} {s : FaceSteps} {f g : ℕ → ℕ → ℕ} → ((m n : ℕ) → m < A → n < A → f m n ≡ g m n) → Steps A s f → Steps A s g
+steps-cong {A} e s = record {
+  base-small = s .base-small;
+  across-small = s .across-small;
+  down-small = s .down-small;
+  gives = λ m n p q. s .gives m n p q ∙ ap pos (e m n p q);
+  below = λ m n p q. subst (λ i. i < planeSamples A) (e m n p q) (s .below m n p q);
+}
+
+-- what they give is not negative
+pub not-negative : {A : ℕ} {s : FaceSteps} {at : ℕ → ℕ → ℕ} → Steps A s at → (m n : ℕ) → m < A → n < A → T (nonNeg (stepped s m n))
+not-negative s m n p q = subst (λ z. T (nonNeg z)) (sym (s .gives m n p q)) tt
+
+-- where a step across is 1, a row lies unbroken
+pub steps-unbroken : {A : ℕ} {s : FaceSteps} {at : ℕ → ℕ → ℕ} → Steps A s at → s .across ≡ pos 1 → (m n : ℕ) → m < A → n < A → at m n ≡ at 0 n + m
+steps-unbroken {s = s} {at} w e m n p q = pos-inj (at m n) (at 0 n + m)
+    (sym (w .gives m n p q)
+    ∙ ap (λ z. s .base +ℤ pos m *ℤ z +ℤ pos n *ℤ s .down) e
+    ∙ solve (s .base ∷ pos m ∷ s .across ∷ (pos n *ℤ s .down) ∷ [])
+    (var 0 ⊕ var 1 ⊗ con (pos 1) ⊕ var 3)
+    (var 0 ⊕ con (pos 0) ⊗ var 2 ⊕ var 3 ⊕ var 1) tt
+    ∙ ap (λ z. z +ℤ pos m) (w .gives 0 n (omega arith) q))
+
+-- each face of a plane with steps
+pub face-of : {A : ℕ} {plane : List ℕ} {table : List ℤ} → SteppedPlane A plane table → (f : ℕ) → f < 6 → SteppedFace A plane (stepsIn table f)
+face-of p f h = record { size-most = p .size-most; whole = p .whole; leads = p .leads f h }
+
+-- ---- a table that leads to the indices of a layout
+
+module _ (A : ℕ) (L : List ℕ) (table : List ℤ) (t : LeadsTo A L table) where
+  -- the steps of a place give its index
+  to-index : (f m n : ℕ) → f < 6 → m < A → n < A → natural (stepped (stepsIn table f) m n) ≡ index A L (place f m n)
+  to-index f m n h p q = ap natural (t f h .gives m n p q)
+
+  pub stepped-plane : {plane : List ℕ} → 1 ≤ A → A ≤ 512 → length plane ≡ 2 * planeSamples A → SteppedPlane A plane table
+  stepped-plane a b e = record {
+    size-least = a;
+    size-most = b;
+    whole = e;
+    leads = λ f h. steps-cong (λ m n p q. sym (to-index f m n h p q)) (t f h);
+  }
+
+  pub sample-by-layout : (plane : List ℕ) (P : Place) → IsPlace A P → sampleBy plane table P ≡ sampleAtPlace plane A L P
+  sample-by-layout plane P p = ap (sampleAt plane) (to-index (P .face) (P .column) (P .row) (p .face-ok) (p .column-ok) (p .row-ok))

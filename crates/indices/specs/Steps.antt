@@ -1,0 +1,61 @@
+-- The index of a place by a base and two steps: base + m·across + n·down.
+use mathlib.Core.Path.{_≡_}
+use mathlib.Core.List.{List}
+use Prim.Native.Nat.{ℕ, _+_, _*_, _≤_, _<_}
+use lib.IntN.{ℤ, pos, natAbs, _+ℤ_, _*ℤ_}
+use lib.ListN.{length, getD}
+use Rattle.arithmetic.specs.Integers.{natural}
+use Rattle.cubemap.specs.declared.Place.{Place}
+use Rattle.cubemap.specs.Frames.{place, planeSamples, index, sampleAt}
+use Rattle.indices.specs.declared.FaceSteps.{FaceSteps}
+
+-- the number that the steps of a face give for a column and a row
+abbrev pub stepped : FaceSteps → ℕ → ℕ → ℤ
+stepped s m n = s .base +ℤ pos m *ℤ s .across +ℤ pos n *ℤ s .down
+
+-- for each column m and row n of a face of size A the steps give the index `at m n`
+pub record Steps (A : ℕ) (s : FaceSteps) (at : ℕ → ℕ → ℕ) : Type 0 where
+  pub base-small : natAbs (s .base) ≤ 1572864
+  pub across-small : natAbs (s .across) ≤ 1536
+  pub down-small : natAbs (s .down) ≤ 1536
+  pub gives : (m n : ℕ) → m < A → n < A → stepped s m n ≡ pos (at m n)
+  pub below : (m n : ℕ) → m < A → n < A → at m n < planeSamples A
+
+-- the steps of a face lead from each of its columns and rows to a sample of a plane
+abbrev pub FaceLeads : ℕ → FaceSteps → Type 0
+FaceLeads A s = Steps A s (λ m n. natural (stepped s m n))
+
+-- the steps of a face in a table of all six, three numbers a face
+abbrev pub stepsIn : List ℤ → ℕ → FaceSteps
+stepsIn table f = record {
+  base = getD table (f * 3) (pos 0);
+  across = getD table (f * 3 + 1) (pos 0);
+  down = getD table (f * 3 + 2) (pos 0);
+}
+
+-- a table that leads to the index of each place in the layout L
+abbrev pub LeadsTo : ℕ → List ℕ → List ℤ → Type 0
+LeadsTo A L table = (f : ℕ) → f < 6 → Steps A (stepsIn table f) (λ m n. index A L (place f m n))
+
+-- ---- the bytes of a plane of face size A, and steps to its samples
+
+-- those of a face
+pub record SteppedFace (A : ℕ) (plane : List ℕ) (s : FaceSteps) : Type 0 where
+  pub size-most : A ≤ 512
+  pub whole : length plane ≡ 2 * planeSamples A
+  pub leads : FaceLeads A s
+
+-- those of all six
+pub record SteppedPlane (A : ℕ) (plane : List ℕ) (table : List ℤ) : Type 0 where
+  pub size-least : 1 ≤ A
+  pub size-most : A ≤ 512
+  pub whole : length plane ≡ 2 * planeSamples A
+  pub leads : (f : ℕ) → f < 6 → FaceLeads A (stepsIn table f)
+
+-- the sample at a column and a row of a face
+abbrev pub sampleBySteps : List ℕ → FaceSteps → ℕ → ℕ → ℕ
+sampleBySteps plane s m n = sampleAt plane (natural (stepped s m n))
+
+-- and at a place
+abbrev pub sampleBy : List ℕ → List ℤ → Place → ℕ
+sampleBy plane table P = sampleBySteps plane (stepsIn table (P .face)) (P .column) (P .row)

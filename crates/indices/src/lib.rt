@@ -1,0 +1,189 @@
+// Where places stand in a frame: the index of a place, by steps, and the place at an index.
+ghost use mathlib.Core.Path.{_≡_};
+ghost use Prim.Native.Nat.{_+_, _*_, _-_, _≤_, _<_};
+ghost use lib.Dec.{T};
+ghost use lib.IntN.{natAbs};
+ghost use lib.Signed.{nonNeg};
+ghost use Rattle.arithmetic.specs.Integers.{natural};
+ghost use Rattle.cubemap.specs.Frames.{place, IsPlace, planeSamples};
+ghost use Rattle.cubemap.specs.Frames.{layoutBytes, spot, quarterTurns, indexInSlot, placeAt};
+ghost use Rattle.cubemap.specs.Frames as paper;
+ghost use Rattle.cubemap.specs.Checks.{layoutOK};
+ghost use Rattle.indices.specs.Steps.{stepped, Steps, stepsIn, LeadsTo, SteppedFace, SteppedPlane, sampleBySteps, sampleBy};
+use cubemap::Layout;
+use cubemap::Place;
+
+// ---- the index of a place
+
+// The base and the two steps of a face: its sample at column m and row n has the index base + m·across + n·down.
+pub struct FaceSteps {
+    pub base: i64,
+    pub across: i64,
+    pub down: i64,
+}
+
+// The steps of the face in a slot.
+fn steps_in_slot(size: u64, slot: u64, turns: u64) -> FaceSteps
+    requires { ⌜ (1 ≤ size) × (size ≤ 512) × (slot < 6) × (turns < 4) ⌝ }
+    ensures { λ r. ⌜ Steps size r (λ m n. indexInSlot size slot (quarterTurns size turns (spot m n))) ⌝ }
+{
+    let width = 3 * size;
+    let last = size - 1;
+    let corner = slot / 3 * size * width + slot % 3 * size;
+    let along = width as i64;
+    match turns {
+        0 => FaceSteps {
+            base: corner as i64,
+            across: 1,
+            down: along,
+        },
+        1 => FaceSteps {
+            base: (corner + last) as i64,
+            across: along,
+            down: 0 - 1,
+        },
+        2 => FaceSteps {
+            base: (corner + last * width + last) as i64,
+            across: 0 - 1,
+            down: 0 - along,
+        },
+        _ => FaceSteps {
+            base: (corner + last * width) as i64,
+            across: 0 - along,
+            down: 1,
+        },
+    }
+}
+
+// The steps of a face in a layout.
+pub fn steps_of(size: u64, layout: Layout, face: u64) -> FaceSteps
+    requires { ⌜ (1 ≤ size) × (size ≤ 512) × T (layoutOK (layoutBytes layout)) × (face < 6) ⌝ }
+    ensures { λ r. ⌜ Steps size r (λ m n. paper.index size (layoutBytes layout) (place face m n)) ⌝ }
+{
+    let slot = frame::slot_of(layout, face);
+    steps_in_slot(size, slot, frame::turns_in(layout, slot))
+}
+
+// The steps of the six faces, three numbers a face.
+pub fn face_steps(size: u64, layout: Layout) -> [i64; 18]
+    requires { ⌜ (1 ≤ size) × (size ≤ 512) × T (layoutOK (layoutBytes layout)) ⌝ }
+    ensures { λ r. ⌜ LeadsTo size (layoutBytes layout) r ⌝ }
+{
+    let mut table = [0; 18];
+    let mut face: u64 = 0;
+    while face < 6 {
+        let steps = steps_of(size, layout, face);
+        let base = steps.base;
+        let across = steps.across;
+        let down = steps.down;
+        let at = face as usize * 3;
+        table[at] = base;
+        table[at + 1] = across;
+        table[at + 2] = down;
+        face += 1;
+    }
+    table
+}
+
+// The steps of a face in a table of all six.
+pub fn steps_at(table: &[i64; 18], face: u64) -> FaceSteps
+    requires { ⌜ face < 6 ⌝ }
+    ensures { λ r. ⌜ r ≡ stepsIn (now (table .entry)) face ⌝ }
+{
+    let at = face as usize * 3;
+    let base = table[at];
+    let across = table[at + 1];
+    let down = table[at + 2];
+    FaceSteps {
+        base: base,
+        across: across,
+        down: down,
+    }
+}
+
+// The index at a column and a row, by the steps of the face.
+pub fn step_to(steps: FaceSteps, column: u64, row: u64) -> u64
+    requires { ⌜ (natAbs (steps .base) ≤ 1572864) × (natAbs (steps .across) ≤ 1536) × (natAbs (steps .down) ≤ 1536) ⌝ }
+    requires { ⌜ (column < 512) × (row < 512) × T (nonNeg (stepped steps column row)) ⌝ }
+    ensures { λ r. ⌜ r ≡ natural (stepped steps column row) ⌝ }
+{
+    let base = steps.base;
+    let across = steps.across;
+    let down = steps.down;
+    (base + column as i64 * across + row as i64 * down) as u64
+}
+
+// The sample at a column and a row of a face, by its steps.
+pub fn sample_by_steps(plane: &[u8], size: u64, steps: FaceSteps, column: u64, row: u64) -> u64
+    requires { ⌜ SteppedFace size (now plane) steps × (column < size) × (row < size) ⌝ }
+    ensures { λ r. ⌜ (r ≡ sampleBySteps (now (plane .entry)) steps column row) × (r < 65536) ⌝ }
+{
+    frame::sample(plane, step_to(steps, column, row) as usize)
+}
+
+// The sample at a place, by a table of steps.
+pub fn sample_by(plane: &[u8], size: u64, table: &[i64; 18], place: Place) -> u64
+    requires { ⌜ SteppedPlane size (now plane) (now table) × IsPlace size place ⌝ }
+    ensures { λ r. ⌜ (r ≡ sampleBy (now (plane .entry)) (now (table .entry)) place) × (r < 65536) ⌝ }
+{
+    let face = place.face;
+    sample_by_steps(plane, size, steps_at(table, face), place.column, place.row)
+}
+
+// The index of a place.
+pub fn index(size: u64, layout: Layout, place: Place) -> u64
+    requires { ⌜ (size ≤ 512) × T (layoutOK (layoutBytes layout)) × IsPlace size place ⌝ }
+    ensures { λ r. ⌜ (r ≡ paper.index size (layoutBytes layout) place) × (r < planeSamples size) ⌝ }
+{
+    step_to(steps_of(size, layout, place.face), place.column, place.row)
+}
+
+// ---- the place at an index
+
+// The place at a column and a row of a slot that holds this face, turned this many times.
+fn turned_back(size: u64, face: u64, turns: u64, column: u64, row: u64) -> Place
+    requires { ⌜ (turns < 4) × (column < size) × (row < size) ⌝ }
+    ensures { λ r. ⌜ (r .face ≡ face) × (spot (r .column) (r .row) ≡ quarterTurns size (4 - turns) (spot column row)) ⌝ }
+{
+    let last = size - 1;
+    match turns {
+        0 => Place {
+            face: face,
+            column: column,
+            row: row,
+        },
+        1 => Place {
+            face: face,
+            column: row,
+            row: last - column,
+        },
+        2 => Place {
+            face: face,
+            column: last - column,
+            row: last - row,
+        },
+        _ => Place {
+            face: face,
+            column: last - row,
+            row: column,
+        },
+    }
+}
+
+// The place at an index.
+pub fn place_at(size: u64, layout: Layout, index: u64) -> Place
+    requires { ⌜ (size ≤ 512) × T (layoutOK (layoutBytes layout)) × (index < planeSamples size) ⌝ }
+    ensures { λ r. ⌜ (r ≡ placeAt size (layoutBytes layout) index) × IsPlace size r ⌝ }
+{
+    let width = 3 * size;
+    let line = index / width;
+    let along = index % width;
+    let slot = line / size * 3 + along / size;
+    turned_back(
+        size,
+        frame::face_in(layout, slot),
+        frame::turns_in(layout, slot),
+        along % size,
+        line % size,
+    )
+}

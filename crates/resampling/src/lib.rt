@@ -1,0 +1,187 @@
+// From the plane of a source to the plane of a target. The target is written in the order of its indices, run after run: a run is a row of a
+// slot. Along it the rotated ray moves by a multiple of one axis, so the matrix is applied twice a run and not to every ray.
+ghost use mathlib.Core.Path.{_≡_};
+ghost use Prim.Native.Nat.{_+_, _*_, _≤_, _<_};
+ghost use lib.Dec.{T};
+ghost use lib.IntN.{pos, natAbs};
+ghost use lib.ListN.{length, getD};
+ghost use Rattle.cubemap.specs.Frames.{layoutBytes, planeSamples, framed};
+ghost use Rattle.cubemap.specs.Checks.{rotationInRange, rayInRange, rayNonzero};
+ghost use Rattle.cubemap.proofs.Rotations.{along};
+ghost use Rattle.resampling.specs.Plane.{slotRay, runStart, runStep, SourceReady, TargetReady, Runs, valueOn, valueAtIndex, placed};
+use cubemap::Format;
+use cubemap::Layout;
+use cubemap::Ray;
+use cubemap::Rotation;
+use cubemap::Sampler;
+
+// One end of a conversion: the face size and the format of its cube.
+pub struct Cube {
+    pub size: u64,
+    pub format: Format,
+}
+
+// What a conversion goes by.
+pub struct Conversion {
+    pub source: Cube,
+    pub target: Cube,
+    pub depth: u64,
+    pub sampler: Sampler,
+    pub rotation: Rotation,
+}
+
+// ---- rays along a run
+
+// The ray at a spot of a slot whose face is turned this many times: u is the coordinate of the spot's column, v that of its row.
+fn slot_ray(face: u64, turns: u64, s: i64, u: i64, v: i64) -> Ray
+    requires { ⌜ (face < 6) × (turns < 4) × (natAbs s ≤ 65536) × (natAbs u ≤ 65536) × (natAbs v ≤ 65536) ⌝ }
+    ensures { λ r. ⌜ r ≡ slotRay face turns s u v ⌝ }
+{
+    match turns {
+        0 => geometry::table3(face, s, u, v),
+        1 => geometry::table3(face, s, v, 0 - u),
+        2 => geometry::table3(face, s, 0 - u, 0 - v),
+        _ => geometry::table3(face, s, 0 - v, u),
+    }
+}
+
+// The ray that is u steps on.
+fn ray_along(start: Ray, step: Ray, u: i64) -> Ray
+    requires { ⌜ T (rayInRange start) × T (rayInRange step) × (natAbs u ≤ 65536) ⌝ }
+    ensures { λ r. ⌜ r ≡ along start u step ⌝ }
+{
+    let x = start.x;
+    let y = start.y;
+    let z = start.z;
+    let dx = step.x;
+    let dy = step.y;
+    let dz = step.z;
+    Ray {
+        x: x + u * dx,
+        y: y + u * dy,
+        z: z + u * dz,
+    }
+}
+
+// Where a run starts: its rotated ray at a column whose coordinate is 0. v is the coordinate of its row in the slot.
+fn run_start(t: Rotation, cube: Cube, face: u64, turns: u64, v: i64) -> Ray
+    requires { ⌜ T (rotationInRange t) × (cube .size ≤ 512) × (face < 6) × (turns < 4) × (natAbs v ≤ 65536) ⌝ }
+    ensures { λ r. ⌜ r ≡ runStart t cube face turns v ⌝ }
+{
+    let format = cube.format;
+    let s = geometry::scale(format, cube.size) as i64;
+    rotation::rotate(t, slot_ray(face, turns, s, 0, v))
+}
+
+// How far its rotated ray moves for each unit of the columns' coordinate.
+fn run_step(t: Rotation, face: u64, turns: u64) -> Ray
+    requires { ⌜ T (rotationInRange t) × (face < 6) × (turns < 4) ⌝ }
+    ensures { λ r. ⌜ r ≡ runStep t face turns ⌝ }
+{
+    rotation::rotate(t, slot_ray(face, turns, 0, 1, 0))
+}
+
+// ---- samples
+
+// The sampler's value where a ray meets the source.
+fn value_on(c: Conversion, source: &[u8], steps: &[i64; 18], weights: &[i64; 256], v: Ray) -> u64
+    requires { ⌜ SourceReady c (now source) (now steps) (now weights) × T (rayInRange v) × T (rayNonzero v) ⌝ }
+    ensures { λ r. ⌜ (r ≡ valueOn c (now (source .entry)) (now (steps .entry)) v) × (r < 65536) ⌝ }
+{
+    let cube = c.source;
+    let size = cube.size;
+    let format = cube.format;
+    let sampler = c.sampler;
+    let p = geometry::locate(format, size, v);
+    sampling::sample_from(sampler, source, size, steps, weights, c.depth, p)
+}
+
+// The samples along a run, from index `from` on: as many as a face has columns.
+fn convert_along(
+    c: Conversion,
+    source: &[u8],
+    steps: &[i64; 18],
+    weights: &[i64; 256],
+    coordinates: &[i64; 512],
+    start: Ray,
+    step: Ray,
+    from: u64,
+    target: &mut [u8],
+)
+    requires { ⌜ SourceReady c (now source) (now steps) (now weights) × Runs (c .target .size) (now coordinates) start step ⌝ }
+    requires { ⌜ (c .target .size ≤ 512) × (from ≤ 1572864) × (2 * (from + c .target .size) ≤ length (now target)) ⌝ }
+    ensures { λ _. ⌜ now (target .exit) ≡ placed (now (target .entry)) from
+        (λ j. valueOn c (now (source .entry)) (now (steps .entry)) (along start (getD (now (coordinates .entry)) j (pos 0)) step)) (c .target .size) ⌝ }
+{
+    let cube = c.target;
+    let size = cube.size;
+    let mut column: u64 = 0;
+    while column < size {
+        let v = ray_along(start, step, coordinates[column as usize]);
+        let value = value_on(c, source, steps, weights, v);
+        frame::put_sample(target, (from + column) as usize, value);
+        column += 1;
+    }
+}
+
+// Run number `run` of the target, in the order of indices: three runs a line.
+fn convert_run(
+    c: Conversion,
+    source: &[u8],
+    steps: &[i64; 18],
+    weights: &[i64; 256],
+    coordinates: &[i64; 512],
+    layout: Layout,
+    run: u64,
+    target: &mut [u8],
+)
+    requires { ⌜ SourceReady c (now source) (now steps) (now weights) × TargetReady c (now coordinates) (layoutBytes layout) ⌝ }
+    requires { ⌜ (run < 6 * c .target .size) × (length (now target) ≡ 2 * planeSamples (c .target .size)) ⌝ }
+    ensures { λ _. ⌜ now (target .exit) ≡ placed (now (target .entry)) (run * c .target .size)
+        (λ j. valueAtIndex c (layoutBytes layout) (now (source .entry)) (now (steps .entry)) (run * c .target .size + j)) (c .target .size) ⌝ }
+{
+    let cube = c.target;
+    let size = cube.size;
+    let line = run / 3;
+    let slot = line / size * 3 + run % 3;
+    let face = frame::face_in(layout, slot);
+    let turns = frame::turns_in(layout, slot);
+    let v = coordinates[(line % size) as usize];
+    let start = run_start(c.rotation, cube, face, turns, v);
+    let step = run_step(c.rotation, face, turns);
+    convert_along(
+        c,
+        source,
+        steps,
+        weights,
+        coordinates,
+        start,
+        step,
+        run * size,
+        target,
+    );
+}
+
+// The whole plane of the target.
+pub fn convert_plane(
+    c: Conversion,
+    source: &[u8],
+    steps: &[i64; 18],
+    weights: &[i64; 256],
+    coordinates: &[i64; 512],
+    layout: Layout,
+    target: &mut [u8],
+)
+    requires { ⌜ SourceReady c (now source) (now steps) (now weights) × TargetReady c (now coordinates) (layoutBytes layout) ⌝ }
+    requires { ⌜ length (now target) ≡ 2 * planeSamples (c .target .size) ⌝ }
+    ensures { λ _. ⌜ now (target .exit)
+        ≡ framed (valueAtIndex c (layoutBytes layout) (now (source .entry)) (now (steps .entry))) (planeSamples (c .target .size)) ⌝ }
+{
+    let cube = c.target;
+    let runs = 6 * cube.size;
+    let mut run: u64 = 0;
+    while run < runs {
+        convert_run(c, source, steps, weights, coordinates, layout, run, target);
+        run += 1;
+    }
+}
