@@ -2,14 +2,11 @@
  * Straightforward: what a maker would write first. The target's samples are computed in the order of their indices, each by
  * itself, step by step as the formulas stand; only the turn's matrix and the slots of the faces are found once a call.
  */
+#include "cube.h"
 #include "double_precision.h"
 #include "welchodrys.h"
 
 #include <math.h>
-
-struct ray {
-    double x, y, z;
-};
 
 /* A position on a source face, in samples, rounded to 64ths of one. */
 struct position {
@@ -25,26 +22,6 @@ struct setting {
     int slot_of_face[6];
 };
 
-static int clip(int number, int largest)
-{
-    return number < 0 ? 0 : number > largest ? largest : number;
-}
-
-/* The turn's matrix, divided by the sum of the four squares. */
-static void set_matrix(const int turn[4], double matrix[3][3])
-{
-    const double e0 = turn[0], e1 = turn[1], e2 = turn[2], e3 = turn[3];
-    const double squares = e0 * e0 + e1 * e1 + e2 * e2 + e3 * e3;
-    const double rows[3][3] = {
-        {e0 * e0 + e1 * e1 - e2 * e2 - e3 * e3, 2 * (e1 * e2 - e0 * e3), 2 * (e1 * e3 + e0 * e2)},
-        {2 * (e1 * e2 + e0 * e3), e0 * e0 - e1 * e1 + e2 * e2 - e3 * e3, 2 * (e2 * e3 - e0 * e1)},
-        {2 * (e1 * e3 - e0 * e2), 2 * (e2 * e3 + e0 * e1), e0 * e0 - e1 * e1 - e2 * e2 + e3 * e3},
-    };
-    for (int i = 0; i < 3; i++)
-        for (int j = 0; j < 3; j++)
-            matrix[i][j] = rows[i][j] / squares;
-}
-
 /* Where the middle of a column or row lies on a face, from -1 to 1; in ACP by equation 12. */
 static double coordinate(const struct conversion *conversion, int number)
 {
@@ -52,28 +29,6 @@ static double coordinate(const struct conversion *conversion, int number)
     if (conversion->format == WELCHODRYS_CMP)
         return plain;
     return copysign((0.34 - sqrt(0.34 * 0.34 - 0.09 * fabs(plain))) / 0.18, plain);
-}
-
-/* The ray of a place on a face (Table 3). */
-static struct ray ray_of(int face, double a, double b)
-{
-    switch (face) {
-    case 0: return (struct ray){1, -b, -a};
-    case 1: return (struct ray){-1, -b, a};
-    case 2: return (struct ray){a, 1, b};
-    case 3: return (struct ray){a, -1, -b};
-    case 4: return (struct ray){a, -b, 1};
-    default: return (struct ray){-a, -b, -1};
-    }
-}
-
-static struct ray turned(const double matrix[3][3], struct ray ray)
-{
-    return (struct ray){
-        matrix[0][0] * ray.x + matrix[0][1] * ray.y + matrix[0][2] * ray.z,
-        matrix[1][0] * ray.x + matrix[1][1] * ray.y + matrix[1][2] * ray.z,
-        matrix[2][0] * ray.x + matrix[2][1] * ray.y + matrix[2][2] * ray.z,
-    };
 }
 
 /* From -1 to 1 across a face to samples, rounded to 64ths; in ACP by equation 14. */
@@ -84,26 +39,11 @@ static double position_on_face(const struct conversion *conversion, double u)
     return floor(position * 64 + 0.5) / 64;
 }
 
-/* Where a ray meets the cube (Table 4). */
+/* Where a ray meets the cube. */
 static struct position position_of(const struct conversion *conversion, struct ray ray)
 {
-    const double x = fabs(ray.x), y = fabs(ray.y), z = fabs(ray.z);
-    int face;
-    double u, v;
-    if (x >= y && x >= z) {
-        face = ray.x > 0 ? 0 : 1;
-        u = (ray.x > 0 ? -ray.z : ray.z) / x;
-        v = -ray.y / x;
-    } else if (y >= z) {
-        face = ray.y > 0 ? 2 : 3;
-        u = ray.x / y;
-        v = (ray.y > 0 ? ray.z : -ray.z) / y;
-    } else {
-        face = ray.z > 0 ? 4 : 5;
-        u = (ray.z > 0 ? ray.x : -ray.x) / z;
-        v = -ray.y / z;
-    }
-    return (struct position){face, position_on_face(conversion, u), position_on_face(conversion, v)};
+    const struct facing at = facing_of(ray);
+    return (struct position){at.face, position_on_face(conversion, at.u), position_on_face(conversion, at.v)};
 }
 
 /* The source's sample at column m and row n of a face, which the layout puts into a slot after clockwise quarter turns. */

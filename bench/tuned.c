@@ -3,6 +3,7 @@
  * each face has a base and two steps into the frame, samples are loaded and stored as 16 bits, and positions are whole 64ths, so
  * that nothing calls floor(). This machine is taken to be little-endian, as frames are.
  */
+#include "cube.h"
 #include "double_precision.h"
 #include "welchodrys.h"
 
@@ -10,10 +11,6 @@
 #include <stddef.h>
 
 enum { LARGEST_FACE_SIZE = 512 /* that of welchodrys_convert */ };
-
-struct ray {
-    double x, y, z;
-};
 
 /* A position on a source face; column and row are in 64ths of a sample, as a look-up gives them. */
 struct position {
@@ -34,26 +31,6 @@ struct setting {
     double coordinates[LARGEST_FACE_SIZE];
     struct steps steps[6];
 };
-
-static int clip(int number, int largest)
-{
-    return number < 0 ? 0 : number > largest ? largest : number;
-}
-
-/* The turn's matrix, divided by the sum of the four squares. */
-static void set_matrix(const int turn[4], double matrix[3][3])
-{
-    const double e0 = turn[0], e1 = turn[1], e2 = turn[2], e3 = turn[3];
-    const double squares = e0 * e0 + e1 * e1 + e2 * e2 + e3 * e3;
-    const double rows[3][3] = {
-        {e0 * e0 + e1 * e1 - e2 * e2 - e3 * e3, 2 * (e1 * e2 - e0 * e3), 2 * (e1 * e3 + e0 * e2)},
-        {2 * (e1 * e2 + e0 * e3), e0 * e0 - e1 * e1 + e2 * e2 - e3 * e3, 2 * (e2 * e3 - e0 * e1)},
-        {2 * (e1 * e3 - e0 * e2), 2 * (e2 * e3 + e0 * e1), e0 * e0 - e1 * e1 - e2 * e2 + e3 * e3},
-    };
-    for (int i = 0; i < 3; i++)
-        for (int j = 0; j < 3; j++)
-            matrix[i][j] = rows[i][j] / squares;
-}
 
 /* Where the middle of each column or row lies on a face, from -1 to 1; in ACP by equation 12. */
 static void set_coordinates(int format, int size, double coordinates[LARGEST_FACE_SIZE])
@@ -88,28 +65,6 @@ static void set_steps(int size, const uint8_t *layout, struct steps steps[6])
         steps[layout[slot]] = steps_in_slot(size, corner_of(size, slot), layout[6 + slot]);
 }
 
-/* The ray of a place on a face (Table 3). */
-static struct ray ray_of(int face, double a, double b)
-{
-    switch (face) {
-    case 0: return (struct ray){1, -b, -a};
-    case 1: return (struct ray){-1, -b, a};
-    case 2: return (struct ray){a, 1, b};
-    case 3: return (struct ray){a, -1, -b};
-    case 4: return (struct ray){a, -b, 1};
-    default: return (struct ray){-a, -b, -1};
-    }
-}
-
-static struct ray turned(const double matrix[3][3], struct ray ray)
-{
-    return (struct ray){
-        matrix[0][0] * ray.x + matrix[0][1] * ray.y + matrix[0][2] * ray.z,
-        matrix[1][0] * ray.x + matrix[1][1] * ray.y + matrix[1][2] * ray.z,
-        matrix[2][0] * ray.x + matrix[2][1] * ray.y + matrix[2][2] * ray.z,
-    };
-}
-
 /* From -1 to 1 across a face to 64ths of a sample, in ACP by equation 14. What is cast is not negative, so it is rounded down. */
 static int position64(const struct conversion *conversion, double u)
 {
@@ -117,26 +72,11 @@ static int position64(const struct conversion *conversion, double u)
     return (int)(32 * conversion->size * (g + 1) + 0.5) - 32;
 }
 
-/* Where a ray meets the cube (Table 4). */
+/* Where a ray meets the cube. */
 static struct position position_of(const struct conversion *conversion, struct ray ray)
 {
-    const double x = fabs(ray.x), y = fabs(ray.y), z = fabs(ray.z);
-    int face;
-    double u, v;
-    if (x >= y && x >= z) {
-        face = ray.x > 0 ? 0 : 1;
-        u = (ray.x > 0 ? -ray.z : ray.z) / x;
-        v = -ray.y / x;
-    } else if (y >= z) {
-        face = ray.y > 0 ? 2 : 3;
-        u = ray.x / y;
-        v = (ray.y > 0 ? ray.z : -ray.z) / y;
-    } else {
-        face = ray.z > 0 ? 4 : 5;
-        u = (ray.z > 0 ? ray.x : -ray.x) / z;
-        v = -ray.y / z;
-    }
-    return (struct position){face, position64(conversion, u), position64(conversion, v)};
+    const struct facing at = facing_of(ray);
+    return (struct position){at.face, position64(conversion, at.u), position64(conversion, at.v)};
 }
 
 static int nearest(const struct setting *setting, struct position at)

@@ -1,23 +1,25 @@
 -- The ray of a place, rotated, is not zero and within the bound of check 13: its length is S times the ray's.
-use mathlib.Core.Path.{_≡_}
-use Prim.Native.Nat.{ℕ, _+_, _*_, _≤_, _<_}
+use mathlib.Core.Path.{_≡_, refl}
+use mathlib.Core.List.{[], _∷_}
+use Prim.Native.Nat.{ℕ, zero, suc, _+_, _*_, _≤_, _<_}
 use native.Mathlib.Nat.{mul-le-mul, mul-pos}
 use native.Mathlib.Omega.{arith}
 use lib.Dec.{T}
-use lib.IntN.{ℤ, pos, natAbs}
+use lib.IntN.{ℤ, pos, negℤ, natAbs, _+ℤ_, _*ℤ_}
 use Rattle.arithmetic.proofs.Sizes.{root-strictly}
+use Rattle.arithmetic.proofs.Ring.{var, _⊕_, _⊗_, ⊖, solve}
 use Rattle.cubemap.specs.declared.Format.{Format}
 use Rattle.cubemap.specs.declared.Place.{Place}
 use Rattle.cubemap.specs.declared.Ray.{Ray}
 use Rattle.cubemap.specs.declared.Rotation.{Rotation}
 use Rattle.cubemap.specs.Frames.{IsPlace}
-use Rattle.cubemap.specs.PlaceToRay.{N, scale, faceCoordinate, rayOf}
+use Rattle.cubemap.specs.PlaceToRay.{N, scale, faceCoordinate, table3, rayOf}
 use Rattle.cubemap.specs.Rotations.{sumOfSquares, rotated}
 use Rattle.cubemap.specs.Checks.{rotationInRange, rotationNonzero, rayInRange, rayNonzero}
 use Rattle.cubemap.proofs.Ranges.{in-range-ray, nonzero-ray}
 use Rattle.cubemap.proofs.FaceCoordinates.{coordinates, scale-positive, scale-bounded}
 use Rattle.cubemap.proofs.Faces.{table3-sizes}
-use Rattle.cubemap.proofs.Rotations.{sizeSquared, rotated-size, sum-positive, sum-bounded}
+use Rattle.cubemap.proofs.Rotations.{ray-eq, along, sizeSquared, rotated-size, sum-positive, sum-bounded}
 
 -- ---- checks 13 and 14 from the length of a ray
 
@@ -73,3 +75,19 @@ rotated-ray t r small some p =
     let b : S * S * sizeSquared r ≤ 14776336 * 12884901888 = mul-le-mul (mul-le-mul {n₂ = 3844} {m₂ = 3844} hS hS) (p .bounded) in
     let c : 0 < S * S * sizeSquared r = mul-pos (mul-pos (sum-positive t some) (sum-positive t some)) (p .positive) in
     record { in-range = size-in-range (rotated t r) (omega arith); nonzero = size-nonzero (rotated t r) (omega arith) }
+
+-- ---- a ray of Table 3 whose numbers move, moves
+
+-- the opposite of a number that is moved
+pub neg-along : (x w y : ℤ) → negℤ (x +ℤ w *ℤ y) ≡ negℤ x +ℤ w *ℤ negℤ y
+neg-along x w y = solve (x ∷ w ∷ y ∷ []) (⊖ (var 0 ⊕ var 1 ⊗ var 2)) (⊖ (var 0) ⊕ var 1 ⊗ ⊖ (var 2)) tt
+
+pub table3-along : (f : ℕ) (w s a b s′ a′ b′ : ℤ)
+    → table3 f (s +ℤ w *ℤ s′) (a +ℤ w *ℤ a′) (b +ℤ w *ℤ b′) ≡ along (table3 f s a b) w (table3 f s′ a′ b′)
+unfolding table3
+table3-along zero w s a b s′ a′ b′ = ray-eq refl (neg-along b w b′) (neg-along a w a′)
+table3-along (suc zero) w s a b s′ a′ b′ = ray-eq (neg-along s w s′) (neg-along b w b′) refl
+table3-along (suc (suc zero)) w s a b s′ a′ b′ = refl
+table3-along (suc (suc (suc zero))) w s a b s′ a′ b′ = ray-eq refl (neg-along s w s′) (neg-along b w b′)
+table3-along (suc (suc (suc (suc zero)))) w s a b s′ a′ b′ = ray-eq refl (neg-along b w b′) refl
+table3-along (suc (suc (suc (suc (suc f))))) w s a b s′ a′ b′ = ray-eq (neg-along a w a′) (neg-along b w b′) (neg-along s w s′)

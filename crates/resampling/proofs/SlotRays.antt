@@ -8,17 +8,17 @@ use lib.Arith.{digits-div, digits-mod, digits-lt}
 use lib.Dec.{T}
 use lib.IntN.{ℤ, pos, negℤ, natAbs, _+ℤ_, _*ℤ_, negℤ-negℤ}
 use Rattle.arithmetic.proofs.Sizes.{natAbs-neg}
-use Rattle.arithmetic.proofs.Ring.{var, con, _⊕_, _⊗_, ⊖, solve}
+use Rattle.arithmetic.proofs.Ring.{var, con, _⊕_, _⊗_, solve}
 use Rattle.cubemap.specs.declared.Format.{Format}
 use Rattle.cubemap.specs.declared.Ray.{Ray}
 use Rattle.cubemap.specs.Frames.{place, Spot, spot, quarterTurns}
-use Rattle.cubemap.specs.PlaceToRay.{N, ray, scale, faceCoordinate, rowOf, table3, rayOf}
+use Rattle.cubemap.specs.PlaceToRay.{N, ray, scale, faceCoordinate, table3, rayOf}
 use Rattle.cubemap.specs.Checks.{rayInRange}
 use Rattle.cubemap.proofs.FaceCoordinates.{coordinates}
-use Rattle.cubemap.proofs.Faces.{table3-rows, table3-sizes, rayOf-table3}
+use Rattle.cubemap.proofs.Faces.{table3-sizes, rayOf-table3}
 use Rattle.cubemap.proofs.Indices.{Within, four-turns, one-turn, two-turns, three-turns, slotAt, spotAt}
-use Rattle.cubemap.proofs.Rotations.{ray-eq, along, sizeSquared}
-use Rattle.cubemap.proofs.RotatedRays.{PlaceRay, size-in-range}
+use Rattle.cubemap.proofs.Rotations.{along, sizeSquared}
+use Rattle.cubemap.proofs.RotatedRays.{PlaceRay, size-in-range, neg-along, table3-along}
 use Rattle.resampling.specs.Plane.{slotRay}
 
 -- ---- the ray of a place, by the spot that its slot has it at
@@ -77,28 +77,6 @@ module _ (A run j : ℕ) (h : j < A) where
   run-spot = ap₂ spot (ap (λ x. x % A) along-line ∙ digits-mod (run % 3) h) (ap (λ x. x % A) line-of)
 
 -- ---- from a start by multiples of a step
-
--- the opposite of a number that is moved
-neg-along : (x w y : ℤ) → negℤ (x +ℤ w *ℤ y) ≡ negℤ x +ℤ w *ℤ negℤ y
-neg-along x w y = solve (x ∷ w ∷ y ∷ []) (⊖ (var 0 ⊕ var 1 ⊗ var 2)) (⊖ (var 0) ⊕ var 1 ⊗ ⊖ (var 2)) tt
-
--- Table 3 by its rows
-abbrev rows : ℕ → ℤ → ℤ → ℤ → Ray
-rows f s a b = rowOf f (ray s (negℤ b) (negℤ a)) (ray (negℤ s) (negℤ b) a) (ray a s b) (ray a (negℤ s) (negℤ b)) (ray a (negℤ b) s)
-    (ray (negℤ a) (negℤ b) (negℤ s))
-
-table3-along : (f : ℕ) (w s a b s′ a′ b′ : ℤ)
-    → table3 f (s +ℤ w *ℤ s′) (a +ℤ w *ℤ a′) (b +ℤ w *ℤ b′) ≡ along (table3 f s a b) w (table3 f s′ a′ b′)
-table3-along f w s a b s′ a′ b′ =
-    table3-rows f (s +ℤ w *ℤ s′) (a +ℤ w *ℤ a′) (b +ℤ w *ℤ b′) ∙ row f ∙ sym (ap₂ (λ r e. along r w e) (table3-rows f s a b) (table3-rows f s′ a′ b′))
-  where
-    row : (f : ℕ) → rows f (s +ℤ w *ℤ s′) (a +ℤ w *ℤ a′) (b +ℤ w *ℤ b′) ≡ along (rows f s a b) w (rows f s′ a′ b′)
-    row zero = ray-eq refl (neg-along b w b′) (neg-along a w a′)
-    row (suc zero) = ray-eq (neg-along s w s′) (neg-along b w b′) refl
-    row (suc (suc zero)) = refl
-    row (suc (suc (suc zero))) = ray-eq refl (neg-along s w s′) (neg-along b w b′)
-    row (suc (suc (suc (suc zero)))) = ray-eq refl (neg-along b w b′) refl
-    row (suc (suc (suc (suc (suc f))))) = ray-eq (neg-along a w a′) (neg-along b w b′) (neg-along s w s′)
 
 slot-along : (f k : ℕ) (w s u v s′ u′ v′ : ℤ)
     → slotRay f k (s +ℤ w *ℤ s′) (u +ℤ w *ℤ u′) (v +ℤ w *ℤ v′) ≡ along (slotRay f k s u v) w (slotRay f k s′ u′ v′)
