@@ -88,6 +88,11 @@ pub cond-false {ℓ} : {X : Type ℓ} (b : Bool) (x y : X) → (T b → ⊥) →
 cond-false true x y f = absurd (f tt)
 cond-false false x y f = refl
 
+-- the first choice matters only where the test passes
+pub cond-cong {ℓ} : {X : Type ℓ} {x y : X} (b : Bool) (z : X) → (T b → x ≡ y) → cond b x z ≡ cond b y z
+cond-cong true z h = h tt
+cond-cong false z h = refl
+
 -- whatever holds of both choices holds of the one that the test makes
 pub cond-both {ℓ} : {X : Type ℓ} (P : X → Type 0) (b : Bool) (x y : X) → (T b → P x) → ((T b → ⊥) → P y) → P (cond b x y)
 cond-both P true x y f g = f tt

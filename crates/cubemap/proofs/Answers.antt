@@ -1,10 +1,10 @@
 -- How an answer comes out of a C call: two's complement, numbers in a lent buffer, and what a call gives by its result.
-use mathlib.Core.Path.{_≡_, refl, sym, _∙_, ap}
+use mathlib.Core.Path.{_≡_, refl, sym, _∙_, ap, subst}
 use mathlib.Core.Bool.{true, false}
 use mathlib.Core.List.{List, [], _∷_, _++_}
 use Prim.Native.Nat.{ℕ, suc, _+_, _*_, _-_, _^_, _≤_, _<_}
 use native.Mathlib.Omega.{arith}
-use lib.Dec.{ltb→lt}
+use lib.Dec.{T, eqb, ltb→lt}
 use lib.ListN.{length, take, drop}
 use lib.IntN.{ℤ, pos, negsuc, natAbs}
 use lib.Signed.{ltZ}
@@ -70,6 +70,13 @@ not-accepted Refusal.RayRange = refl
 not-accepted Refusal.RayZero = refl
 not-accepted Refusal.RecordKind = refl
 not-accepted Refusal.RecordCut = refl
+
+-- a call that returns 0 is accepted
+pub returned-0 : (a : Answer) → returnCode a ≡ 0 → T (isAccepted a)
+returned-0 a e = subst (λ n. T (eqb n 0)) (number (a .number) (a .index) (sym e)) tt
+  where
+    number : (n i : ℕ) → 0 ≡ n + 256 * i → 0 ≡ n
+    number n i h = omega arith
 
 -- ---- what a call gives, by its result
 

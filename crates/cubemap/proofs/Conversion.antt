@@ -30,7 +30,7 @@ use Rattle.cubemap.proofs.Samplers.{value-within, value-own}
 use Rattle.cubemap.proofs.Rotations.{sum-positive, multiple, rotated-multiple, LeadsTo, leads-only}
 use Rattle.cubemap.proofs.RotatedRays.{RotatedRay, rotated-ray, place-ray}
 use Rattle.cubemap.proofs.CubeRays.{PlaceOf, ray-apart, ray-cube, cube-place}
-use Rattle.cubemap.proofs.CubeRotations.{permuted, Permutes, cube-permutes, cube-permuted}
+use Rattle.cubemap.proofs.CubeRotations.{permuted, cube-permuted, CubeMatrix, cube-matrix, Permutes, matrix-permutes}
 
 -- ---- a nonzero multiple of a rotation leads to the same positions
 
@@ -127,14 +127,14 @@ pub record Step (z : Shape) (t : Rotation) (P : Place) : Type 0 where
   pub ok : IsPlace (z .size) to
   pub leads : LeadsTo t (rayIn z P) (rayIn z to)
 
-pub cube-step : (z : Shape) (t : Rotation) (P : Place) → z .size ≤ 512 → 0 < sumOfSquares t → CubeRotation t → IsPlace (z .size) P → Step z t P
-cube-step z t P a h c p = record { to = q .place; ok = q .ok; leads = m .leads (rayIn z P) ∙ ap (times (sumOfSquares t)) (sym (q .ray)) }
+pub matrix-step : (z : Shape) (t : Rotation) (P : Place) → z .size ≤ 512 → 0 < sumOfSquares t → CubeMatrix t → IsPlace (z .size) P → Step z t P
+matrix-step z t P a h w p = record { to = q .place; ok = q .ok; leads = m .leads (rayIn z P) ∙ ap (times (sumOfSquares t)) (sym (q .ray)) }
   where
     f : Format
     f = formatOf (z .format)
 
     m : Permutes t
-    m = cube-permutes t h c
+    m = matrix-permutes t h w
 
     k : Coordinates f (z .size)
     k = coordinates f (z .size) a
@@ -142,6 +142,9 @@ cube-step z t P a h c p = record { to = q .place; ok = q .ok; leads = m .leads (
     q : PlaceOf f (z .size) k (permuted (m .by) (rayIn z P))
     q = cube-place f (z .size) k (permuted (m .by) (rayIn z P))
         (cube-permuted f (z .size) k (m .by) (rayIn z P) (ray-cube f (z .size) k P p))
+
+pub cube-step : (z : Shape) (t : Rotation) (P : Place) → z .size ≤ 512 → 0 < sumOfSquares t → CubeRotation t → IsPlace (z .size) P → Step z t P
+cube-step z t P a h c p = matrix-step z t P a h (cube-matrix t c) p
 
 -- "exactly one place has that ray"
 pub led-only : (z : Shape) (t : Rotation) (P Q R : Place) → z .size ≤ 512 → 0 < sumOfSquares t → IsPlace (z .size) Q → IsPlace (z .size) R

@@ -5,6 +5,7 @@ use mathlib.Core.List.{List, [], _∷_, _++_}
 use Prim.Native.Nat.{ℕ}
 use lib.Dec.{T}
 use lib.ListN.{length}
+use Rattle.arithmetic.proofs.Tests.{cond-cong, cond-both}
 use Rattle.cubemap.specs.declared.Refusal.{Refusal}
 use Rattle.cubemap.specs.Interface.{Answer, accepted, isAccepted}
 use Rattle.cubemap.specs.Frames.{shapeOf}
@@ -12,7 +13,7 @@ use Rattle.cubemap.specs.Checks.{ConvertSettings, targetShape, Check, ch
 use Rattle.cubemap.specs.Checks.{rotationInRange, rotationNonzero, lengthOK}
 use Rattle.cubemap.specs.Checks.{sizeChecks, settingChecks, lengthChecks, beforeSamples, convertChecks}
 use Rattle.cubemap.specs.Outcomes.{outcome, refusal, convertedBytes, convertAnswer, convertOutcome}
-use Rattle.cubemap.proofs.Passed.{AllHold, all-hold, Remaining, firstFailed-append, Between, size-range, ConvertPassed, convert-passed}
+use Rattle.cubemap.proofs.Passed.{AllHold, all-hold, accepted-is, Remaining, firstFailed-append, Between, size-range, ConvertPassed, convert-passed}
 use Rattle.cubemap.proofs.Answers.{not-accepted}
 
 module _ (s : ConvertSettings) where
@@ -77,10 +78,42 @@ module _ (s : ConvertSettings) where
     unfolding convertAnswer
     answer-passed e = convert-passed s sourceLength targetLength source (subst (λ a. T (isAccepted a)) e tt)
 
+-- ---- an accepted call answers 0, with index 0
+
+pub answer-accepted : (s : ConvertSettings) (sourceLength targetLength : ℕ) (source : List ℕ)
+    → T (isAccepted (convertAnswer s sourceLength targetLength source)) → convertAnswer s sourceLength targetLength source ≡ accepted
+unfolding convertAnswer convertChecks beforeSamples sizeChecks settingChecks lengthChecks
+answer-accepted s sourceLength targetLength source t = accepted-is (convertChecks s sourceLength targetLength source) tt t
+
+-- ---- checks 1 to 9 look at no sample
+
+module _ (s : ConvertSettings) (sourceLength targetLength : ℕ) where
+  abbrev answer1to9 : Answer
+  answer1to9 = firstFailed (beforeSamples s sourceLength targetLength)
+
+  abbrev answer10 : List ℕ → Answer
+  answer10 source = firstFailed (samplesCheck 10 (s .sourceShape) source ∷ [])
+
+  answer-before : (source : List ℕ)
+      → convertAnswer s sourceLength targetLength source ≡ cond (isAccepted answer1to9) (answer10 source) answer1to9
+  unfolding convertAnswer convertChecks beforeSamples sizeChecks settingChecks lengthChecks
+  answer-before source = firstFailed-append (beforeSamples s sourceLength targetLength) (samplesCheck 10 (s .sourceShape) source ∷ []) tt
+
+  -- so two sources that are the same where these let the call through have the same answer
+  pub answer-cong : (x y : List ℕ) → (T (isAccepted answer1to9) → x ≡ y)
+      → convertAnswer s sourceLength targetLength x ≡ convertAnswer s sourceLength targetLength y
+  answer-cong x y h = answer-before x ∙ cond-cong (isAccepted answer1to9) answer1to9 (λ t. ap answer10 (h t)) ∙ sym (answer-before y)
+
+  -- and an accepted call was let through
+  pub accepted-before : (source : List ℕ) → T (isAccepted (convertAnswer s sourceLength targetLength source)) → T (isAccepted answer1to9)
+  accepted-before source t =
+      cond-both (λ a. T (isAccepted a) → T (isAccepted answer1to9)) (isAccepted answer1to9) (answer10 source) answer1to9 (λ h u. h) (λ f u. u)
+      (subst (λ a. T (isAccepted a)) (answer-before source) t)
+
 -- ---- the outcome by the answer
 
 module _ (s : ConvertSettings) (source target : List ℕ) where
-  outcome-is : (a : Answer) → a ≡ convertAnswer s (length source) (length target) source
+  pub outcome-is : (a : Answer) → a ≡ convertAnswer s (length source) (length target) source
       → outcome a (cond (isAccepted a) (convertedBytes s source) target) ≡ convertOutcome s source target
   unfolding convertOutcome
   outcome-is a e = ap (λ a. outcome a (cond (isAccepted a) (convertedBytes s source) target)) e

@@ -1,20 +1,23 @@
 -- A sample of `framed` is what was framed; a frame whose bytes are given place by place; and which frames pass checks 8 to 11.
-use mathlib.Core.Path.{_≡_, refl, sym, _∙_, ap, ap₂}
-use mathlib.Core.Bool.{not}
+use mathlib.Core.Path.{_≡_, refl, sym, _∙_, ap, ap₂, subst}
+use mathlib.Core.Bool.{false, not}
 use mathlib.Core.List.{List, [], _∷_, _++_}
-use Prim.Native.Nat.{ℕ, zero, suc, _+_, _*_, _^_, _<_}
+use Prim.Native.Nat.{ℕ, zero, suc, _+_, _*_, _^_, _≤_, _<_}
 use native.Mathlib.Decide.{ℕ-discrete}
+use native.Mathlib.Nat.{le-refl, pow-le-pow-right}
 use native.Mathlib.Omega.{arith}
-use lib.Dec.{T, eqb, eqb→eq, ltb→lt, lt→ltb}
+use lib.Dec.{T, T-not, eqb, eqb→eq, eqb-refl, ltb→lt, lt→ltb}
 use lib.ListN.{length, length-append, take, drop, getD, List·getD-append}
 use lib.Seq.{getD-take, getD-drop}
 use Rattle.arithmetic.specs.Searches.{lowest, allBelow}
-use Rattle.arithmetic.proofs.Searches.{all-at, all-of, Lowest, not-all}
+use Rattle.arithmetic.proofs.Searches.{all-at, all-of, Lowest, not-all, lowest-none}
+use Rattle.arithmetic.proofs.Tests.{same-test}
 use Rattle.cubemap.specs.declared.Place.{Place}
 use Rattle.cubemap.specs.declared.Shape.{Shape}
 use Rattle.cubemap.specs.Interface.{littleEndian}
 use Rattle.cubemap.specs.Frames.{IsPlace, sampleAt, framed, planeSamples, samplesIn, bytesIn, index, placeAt, sampleAtPlace}
-use Rattle.cubemap.specs.Checks.{lengthOK, sampleOK, samplesOK, lowestBeyond}
+use Rattle.cubemap.specs.Checks.{depthOK, lengthOK, sampleOK, samplesOK, lowestBeyond}
+use Rattle.cubemap.proofs.Passed.{depth-range}
 use Rattle.cubemap.proofs.Layouts.{LayoutHolds}
 use Rattle.cubemap.proofs.Indices.{index-ok, placeAt-index, placeAt-ok}
 
@@ -139,8 +142,49 @@ pub lowestBeyond-is : (z : Shape) (bytes : List ℕ) → (T (samplesOK z bytes) 
 unfolding samplesOK lowestBeyond
 lowestBeyond-is z bytes f = not-all (sampleOK z bytes) (samplesIn z) f
 
+-- where every sample is within the depth, none is found
+pub beyond-none : (z : Shape) (bytes : List ℕ) → T (samplesOK z bytes) → lowestBeyond z bytes ≡ samplesIn z
+unfolding samplesOK lowestBeyond
+beyond-none z bytes t = lowest-none (record { bounded = omega arith; each = none }) (le-refl (samplesIn z))
+  where
+    none : (i : ℕ) → i < samplesIn z → not (sampleOK z bytes i) ≡ false
+    none i h = same-test (not (sampleOK z bytes i)) false (λ n. T-not (sampleOK z bytes i) n (all-at (sampleOK z bytes) (samplesIn z) t i h)) (λ f. absurd f)
+
 -- at a place of a frame with a layout that passes check 5
 pub place-below : (z : Shape) (L bytes : List ℕ) (P : Place) → LayoutHolds L → T (samplesOK z bytes) → IsPlace (z .size) P
     → sampleAtPlace bytes (z .size) L P < 2 ^ z .depth
 unfolding samplesIn
 place-below z L bytes P o t p = samples-below z bytes t (index (z .size) L P) (index-ok (z .size) L o P p)
+
+-- ---- the bytes of a plane pass checks 8 to 11 where each sample is within the depth
+
+-- a sample within the depth fits two bytes
+pub depth-fits : (D v : ℕ) → T (depthOK D) → v < 2 ^ D → v < 65536
+depth-fits D v t h =
+    let p : 2 ^ D ≤ 2 ^ 12 = pow-le-pow-right (omega arith) (depth-range D t .at-most) in
+    omega arith
+
+pub planeOf-length : (z : Shape) (L : List ℕ) (g : Place → ℕ) → T (lengthOK z (length (planeOf (z .size) L g)))
+planeOf-length z L g = subst T (sym (length-test z (length bytes))) (subst (λ n. T (eqb (length bytes) n)) long (eqb-refl (length bytes)))
+  where
+    bytes : List ℕ
+    bytes = planeOf (z .size) L g
+
+    long : length bytes ≡ 2 * samplesIn z
+    long = framed-length (λ i. g (placeAt (z .size) L i)) (planeSamples (z .size)) ∙ omega (arith, samples-number z)
+
+pub planeOf-samples : (z : Shape) (L : List ℕ) (g : Place → ℕ) → LayoutHolds L → T (depthOK (z .depth))
+    → ((P : Place) → IsPlace (z .size) P → g P < 2 ^ z .depth) → T (samplesOK z (planeOf (z .size) L g))
+planeOf-samples z L g o d b = below-samples z (planeOf A L g) (λ i l. subst (λ v. v < 2 ^ z .depth) (sym (sample i (below i l))) (inside i (below i l)))
+  where
+    A : ℕ
+    A = z .size
+
+    below : (i : ℕ) → i < samplesIn z → i < planeSamples A
+    below i l = omega (arith, samples-number z)
+
+    inside : (i : ℕ) → i < planeSamples A → g (placeAt A L i) < 2 ^ z .depth
+    inside i l = b (placeAt A L i) (placeAt-ok A L o i l)
+
+    sample : (i : ℕ) → i < planeSamples A → sampleAt (planeOf A L g) i ≡ g (placeAt A L i)
+    sample i l = sample-framed (λ i. g (placeAt A L i)) (planeSamples A) i (λ j k. depth-fits (z .depth) (g (placeAt A L j)) d (inside j k)) l

@@ -27,6 +27,7 @@ pub mod CubeRotations
 pub mod RotatedRays
 pub mod Conversion
 pub mod Weights
+pub mod Scores
 pub mod Records
 pub mod Decimals
 pub mod Listings

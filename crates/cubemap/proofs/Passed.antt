@@ -46,6 +46,9 @@ holding (c ∷ cs) h = go (c .holds) (h .0) (holding cs (h .1))
     go true t ih = ih
     go false t ih = absurd t
 
+pub accepted-is : (cs : List Check) → T (numbered cs) → T (isAccepted (firstFailed cs)) → firstFailed cs ≡ accepted
+accepted-is cs n t = holding cs (all-hold cs n t)
+
 -- no check has a number above n
 abbrev pub numberedUpTo : ℕ → List Check → Bool
 numberedUpTo n [] = true

@@ -1,5 +1,5 @@
 -- Sums over all places: term by term, and the same where each place is first taken to another, one to one.
-use mathlib.Core.Path.{_≡_, sym, _∙_, ap, subst}
+use mathlib.Core.Path.{_≡_, refl, sym, _∙_, ap, subst}
 use Prim.Native.Nat.{ℕ, _*_, _/_, _%_, _≤_}
 use Rattle.arithmetic.specs.Sums.{sumBelow}
 use Rattle.arithmetic.proofs.Sums.{sum-cong, sum-bounded, sum-flat, sum-reorder, Bijection}
@@ -27,6 +27,19 @@ pub record OneToOne (A : ℕ) (to back : Place → Place) : Type 0 where
   pub back-ok : (Q : Place) → IsPlace A Q → IsPlace A (back Q)
   pub back-to : (P : Place) → IsPlace A P → back (to P) ≡ P
   pub to-back : (Q : Place) → IsPlace A Q → to (back Q) ≡ Q
+
+pub same-places : (A : ℕ) → OneToOne A (λ P. P) (λ Q. Q)
+same-places A = record { to-ok = λ P p. p; back-ok = λ Q q. q; back-to = λ P p. refl; to-back = λ Q q. refl }
+
+-- one map after another
+pub one-after : (A : ℕ) {to back later later-back : Place → Place} → OneToOne A to back → OneToOne A later later-back
+    → OneToOne A (λ P. later (to P)) (λ Q. back (later-back Q))
+one-after A {to} {back} {later} {later-back} m n = record {
+  to-ok = λ P p. n .to-ok (to P) (m .to-ok P p);
+  back-ok = λ Q q. m .back-ok (later-back Q) (n .back-ok Q q);
+  back-to = λ P p. ap back (n .back-to (to P) (m .to-ok P p)) ∙ m .back-to P p;
+  to-back = λ Q q. ap later (m .to-back (later-back Q) (n .back-ok Q q)) ∙ n .to-back Q q;
+}
 
 -- a map of places as one of their numbers
 abbrev onNumbers : ℕ → (Place → Place) → ℕ → ℕ

@@ -8,7 +8,7 @@ use native.Mathlib.Nat.{mul-comm, mul-pos, mul-le-mul}
 use native.Mathlib.Omega.{arith}
 use lib.Dec.{T, eqb}
 use lib.IntN.{ℤ, pos, negℤ, natAbs, _+ℤ_, _-ℤ_, _*ℤ_, negℤ-negℤ}
-use Rattle.arithmetic.proofs.Integers.{mul-assoc}
+use Rattle.arithmetic.proofs.Integers.{one-mul, mul-assoc}
 use Rattle.arithmetic.proofs.Sizes.{pos-inj, natAbs-neg, natAbs-mul, square, mul-cancel, root-below}
 use Rattle.arithmetic.proofs.Ring.{Expr, var, con, _⊕_, _⊗_, _⊝_, ⊖, eval, identical, solve}
 use Rattle.cubemap.specs.declared.Ray.{Ray}
@@ -385,6 +385,14 @@ rotated-identity v = solveRay (rayNumbers v []) (rotatedE one (rayE 0)) (rayE 0)
   where
     one : RotationE
     one = record { e0 = con (pos 1); e1 = con (pos 0); e2 = con (pos 0); e3 = con (pos 0) }
+
+pub identity-positive : 0 < sumOfSquares identity
+unfolding sumOfSquares
+identity-positive = omega arith
+
+pub identity-leads : (v : Ray) → LeadsTo identity v v
+unfolding sumOfSquares times
+identity-leads v = rotated-identity v ∙ sym (ray-eq (one-mul (v .x)) (one-mul (v .y)) (one-mul (v .z)))
 
 unfoldable pub inverse : Rotation → Rotation
 inverse t = rotation (t .e0) (negℤ (t .e1)) (negℤ (t .e2)) (negℤ (t .e3))

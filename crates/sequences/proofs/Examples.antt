@@ -1,27 +1,35 @@
--- The examples of the step and of the model hold, each by computation from the definitions.
+-- The examples of the step and of the model hold, and the list of calls is a run, each by computation from the definitions.
 -- Assumes nothing.
 use mathlib.Core.Path.{refl}
+use mathlib.Core.List.{List}
+use Prim.Native.Nat.{ℕ}
 use Rattle.arithmetic.specs.Searches.{largest, lowestFrom, allBelow}
 use Rattle.arithmetic.specs.Sums.{sumBelow}
 use Rattle.cubemap.specs.Frames.{framed, samplesIn, bytesIn, slotOf, quarterTurns, indexInSlot, index}
 use Rattle.cubemap.specs.Frames.{placeNumbered, placeAt}
 use Rattle.cubemap.specs.PlaceToRay.{times, table3, rayOf}
-use Rattle.cubemap.specs.Rotations.{sumOfSquares, rotated, product, commonDivisor, divided, signNormalized, compose, composeFrom}
-use Rattle.cubemap.specs.Checks.{targetShape, firstFailed, sizeOK, depthOK, codeOK, layoutOK, rotationInRange, rotationNonzero}
+use Rattle.cubemap.specs.Rotations.{sumOfSquares, rotated, isCubeRotation, product, commonDivisor, divided, signNormalized, compose, composeFrom}
+use Rattle.cubemap.specs.RayToPlace.{faceOf, chosenSize, across, down, adjusted, position64, locate}
+use Rattle.cubemap.specs.Samplers.{base, phase, tapPlace, tapWeight, cubicSum, rounded, sampleFrom}
+use Rattle.cubemap.specs.Checks.{ConvertSettings, targetShape, firstFailed, sizeOK, depthOK, codeOK, layoutOK, rotationInRange, rotationNonzero}
 use Rattle.cubemap.specs.Checks.{lengthOK, samplesOK, lowestBeyond}
 use Rattle.cubemap.specs.Checks.{sizeChecks, settingChecks, lengthChecks, beforeSamples, convertChecks}
-use Rattle.cubemap.specs.Outcomes.{convertAnswer}
+use Rattle.cubemap.specs.Outcomes.{sourcePosition, valueAt, convertedSample, convertedBytes, convertAnswer, convertOutcome}
+use Rattle.cubemap.specs.Promises.{ConvertPromise}
 use Rattle.sequences.specs.Steps.{ledTo}
-use Rattle.sequences.specs.Model.{movedFrame, afterCall, afterCalls, acceptedRotations}
-use Rattle.sequences.specs.Examples.{Examples}
+use Rattle.sequences.specs.Model.{toldAll, movedFrame, afterCall, afterCalls, acceptedRotations}
+use Rattle.sequences.specs.Runs.{leftBy, Each, Keeping}
+use Rattle.sequences.specs.Examples.{made, Exists, Examples}
 
 pub examples : Examples
 unfolding largest lowestFrom allBelow sumBelow
     framed samplesIn bytesIn slotOf quarterTurns indexInSlot index placeNumbered placeAt
     times table3 rayOf sumOfSquares rotated product commonDivisor divided signNormalized compose composeFrom
+    faceOf chosenSize across down adjusted position64 locate base phase tapPlace tapWeight cubicSum rounded sampleFrom
     targetShape firstFailed sizeOK depthOK codeOK layoutOK rotationInRange rotationNonzero
-    lengthOK samplesOK lowestBeyond sizeChecks settingChecks lengthChecks beforeSamples convertChecks convertAnswer
-    ledTo movedFrame afterCall afterCalls acceptedRotations
+    lengthOK samplesOK lowestBeyond sizeChecks settingChecks lengthChecks beforeSamples convertChecks
+    sourcePosition valueAt convertedSample convertedBytes convertAnswer convertOutcome
+    ledTo toldAll movedFrame afterCall afterCalls acceptedRotations leftBy
 examples = record {
   step = refl;
   refused = λ bytes. refl;
@@ -31,4 +39,36 @@ examples = record {
   moved = refl;
   led = refl;
   layout = refl;
+  says-0 = refl;
+  says-1 = λ after. refl;
+}
+
+-- what the definition makes keeps the promise
+keeps : (s : ConvertSettings) (source : List ℕ) → ConvertPromise (made s source)
+keeps s source = record {
+  gives = record { returns = refl; holds = refl };
+  source-stays = refl;
+  source-layout-stays = refl;
+  target-layout-stays = refl;
+}
+
+pub exists : Exists
+unfolding lowestFrom allBelow sumBelow
+    framed samplesIn bytesIn slotOf quarterTurns indexInSlot index placeNumbered placeAt
+    table3 rayOf sumOfSquares rotated isCubeRotation
+    faceOf chosenSize across down adjusted position64 locate base phase tapPlace tapWeight cubicSum rounded sampleFrom
+    targetShape firstFailed sizeOK depthOK codeOK layoutOK rotationInRange rotationNonzero
+    lengthOK samplesOK lowestBeyond sizeChecks settingChecks lengthChecks beforeSamples convertChecks
+    sourcePosition valueAt convertedSample convertedBytes convertAnswer convertOutcome
+    leftBy Each Keeping
+exists = record {
+  run = record {
+    made = (keeps _ _, (keeps _ _, (keeps _ _, tt)));
+    reads = ((λ t. refl), ((λ t. absurd t), ((λ t. refl), tt)));
+    own = (
+      (λ t. record { own-shape = refl; own-layout = refl; same-shape = refl; cube = tt }),
+      ((λ t. absurd t), ((λ t. record { own-shape = refl; own-layout = refl; same-shape = refl; cube = tt }), tt)),
+    );
+  };
+  answers = (refl, refl, refl);
 }

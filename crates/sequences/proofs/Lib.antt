@@ -1,1 +1,9 @@
 pub mod Examples
+pub mod Steps
+pub mod Frames
+pub mod Calls
+pub mod Runs
+pub mod Scores
+pub mod Permanence
+pub mod Excluded
+pub mod Twice

@@ -1,17 +1,22 @@
--- The step of P12, and the model over a list of three calls: accepted, refused, accepted.
+-- The step of P12; and a list of three calls on a small frame, accepted, refused and accepted: what the model makes of it.
 use mathlib.Core.Path.{_≡_}
 use mathlib.Core.List.{List, [], _∷_}
 use Prim.Native.Nat.{ℕ, _+_}
+use lib.ListN.{replicate}
 use lib.IntN.{pos}
 use Rattle.cubemap.specs.declared.Rotation.{Rotation}
 use Rattle.cubemap.specs.declared.Shape.{Shape}
-use Rattle.cubemap.specs.Interface.{answer}
+use Rattle.cubemap.specs.Interface.{answer, returnCode}
 use Rattle.cubemap.specs.Frames.{Frame, place, shapeOf, framed, usualLayout, frameSample}
 use Rattle.cubemap.specs.Rotations.{rotation, composeAll}
+use Rattle.cubemap.specs.Checks.{ConvertSettings, convertSettings}
+use Rattle.cubemap.specs.Outcomes.{convertOutcome}
+use Rattle.cubemap.specs.Promises.{ConvertCall, convertCall, ConvertPromise}
 use Rattle.cubemap.specs.Marked.{cmp, minus, rotationℕ}
 use Rattle.cubemap.specs.Examples.{otherLayout}
 use Rattle.sequences.specs.Steps.{ledTo}
-use Rattle.sequences.specs.Model.{Told, Model, answerTo, atStart, afterCalls, acceptedRotations}
+use Rattle.sequences.specs.Model.{Told, told, toldAll, Model, answerTo, atStart, afterCalls, acceptedRotations}
+use Rattle.sequences.specs.Runs.{leftBy, Keeping, Run}
 
 abbrev small : Shape
 small = shapeOf 1 8 cmp
@@ -20,27 +25,42 @@ small = shapeOf 1 8 cmp
 abbrev first : Frame
 first = record { shape = small; layout = otherLayout; bytes = framed (λ f. 10 + f) 6 }
 
--- a call by t that names the layouts L and M, with a source of n bytes
-abbrev call : Rotation → List ℕ → List ℕ → ℕ → Told
-call t L M n = record {
-  settings = record {
-    sourceShape = small;
-    targetSize = 1;
-    targetFormat = cmp;
-    sampler = 1;
-    sourceLayout = L;
-    targetLayout = M;
-    rotation = t;
-  };
-  sourceLength = n;
-  targetLength = 12;
-}
+-- by the turn t, from the layout L to the layout M, with the cubic sampler
+abbrev turning : Rotation → List ℕ → List ℕ → ConvertSettings
+turning t L M = convertSettings small 1 cmp 1 L M t
 
-abbrev wrong : Told
-wrong = call (rotationℕ 1 0 0 1) usualLayout otherLayout 11
+-- the target before each call
+abbrev room : List ℕ
+room = replicate 12 7
 
-abbrev calls : List Told
-calls = call (rotationℕ 1 0 1 0) otherLayout usualLayout 12 ∷ wrong ∷ call (rotationℕ 1 1 0 0) usualLayout usualLayout 12 ∷ []
+-- a call, with what it returned and wrote
+abbrev call : ConvertSettings → List ℕ → ℕ → List ℕ → ConvertCall
+call s source returned after = convertCall s source room returned (s .sourceLayout) (s .targetLayout) source after
+
+-- the call as convert's definition makes it
+abbrev pub made : ConvertSettings → List ℕ → ConvertCall
+made s source =
+    let o = convertOutcome s source room in
+    call s source (returnCode (o .answered)) (o .bytes)
+
+-- the second call's source is a byte short
+abbrev short : List ℕ
+short = replicate 11 0
+
+abbrev wrong : ConvertSettings
+wrong = turning (rotationℕ 1 0 0 1) usualLayout otherLayout
+
+abbrev call1 : ConvertCall
+call1 = made (turning (rotationℕ 1 0 1 0) otherLayout usualLayout) (first .bytes)
+
+abbrev call2 : ConvertCall
+call2 = made wrong short
+
+abbrev call3 : ConvertCall
+call3 = made (turning (rotationℕ 1 1 0 0) usualLayout usualLayout) (call1 .targetAfter)
+
+abbrev pub calls : List ConvertCall
+calls = call1 ∷ call2 ∷ call3 ∷ []
 
 -- the samples of faces 0 to 5, one each
 abbrev samples : Frame → List ℕ
@@ -49,17 +69,22 @@ samples F =
     ∷ frameSample F (place 3 0 0) ∷ frameSample F (place 4 0 0) ∷ frameSample F (place 5 0 0) ∷ []
 
 abbrev last : Model
-last = afterCalls (atStart first) calls
+last = afterCalls (atStart first) (toldAll calls)
+
+-- runs exist: this list is one, and the three calls answer 0, 8 and 0
+pub record Exists : Type 0 where
+  pub run : Run (Keeping ConvertPromise) first calls
+  pub answers : (call1 .returned ≡ 0) × (call2 .returned ≡ 8) × (call3 .returned ≡ 0)
 
 pub record Examples : Type 0 where
   -- the step leads where P12 has the converter read
   pub step : ledTo (shapeOf 3 8 cmp) (rotationℕ 1 0 1 0) (place 0 0 1) ≡ place 5 0 1
   -- the second call's source is a byte short: number 8, and its turn is not among the accepted ones
-  pub refused : (bytes : List ℕ) → answerTo wrong bytes ≡ answer 8 0
-  pub turns : acceptedRotations (atStart first) calls ≡ rotationℕ 1 0 1 0 ∷ rotationℕ 1 1 0 0 ∷ []
+  pub refused : (bytes : List ℕ) → answerTo (told call2) bytes ≡ answer 8 0
+  pub turns : acceptedRotations (atStart first) (toldAll calls) ≡ rotationℕ 1 0 1 0 ∷ rotationℕ 1 1 0 0 ∷ []
   -- the old fold first: P10
   pub fold : last .fold ≡ rotation (pos 1) (pos 1) (pos 1) (minus 1)
-  pub folds : last .fold ≡ composeAll (acceptedRotations (atStart first) calls)
+  pub folds : last .fold ≡ composeAll (acceptedRotations (atStart first) (toldAll calls))
   -- each sample stands once, where the two steps lead, and where the fold's one step leads
   pub moved : samples (last .frame) ≡ 15 ∷ 14 ∷ 10 ∷ 11 ∷ 13 ∷ 12 ∷ []
   pub led :
@@ -68,3 +93,8 @@ pub record Examples : Type 0 where
       ≡ place 5 0 0 ∷ place 4 0 0 ∷ place 0 0 0 ∷ place 1 0 0 ∷ place 3 0 0 ∷ place 2 0 0 ∷ []
   -- "in the target's layout"
   pub layout : last .frame .layout ≡ usualLayout
+  -- what a call answers decides nothing: a refused one that says 0 and writes leaves the frame, an accepted one that says 1 leaves what it wrote
+  pub says-0 : leftBy first (call wrong short 0 room) ≡ first
+  pub says-1 : (after : List ℕ)
+      → leftBy first (call (turning (rotationℕ 1 0 1 0) otherLayout usualLayout) (first .bytes) 1 after)
+      ≡ record { shape = small; layout = usualLayout; bytes = after }

@@ -1,3 +1,7 @@
 pub mod Steps
 pub mod Model
+pub mod Runs
+pub mod Demand3
 pub mod Examples
+pub mod Excluded
+pub mod Twice

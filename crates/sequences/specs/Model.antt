@@ -1,5 +1,4 @@
 -- The paper, "Runs of whole-cube turns", the book: the model here, which a list of conversions is held to.
-use mathlib.Core.Path.{_≡_}
 use mathlib.Core.Bool.{Bool, cond}
 use mathlib.Core.List.{List, [], _∷_}
 use Prim.Native.Nat.{ℕ}
@@ -7,8 +6,8 @@ use lib.ListN.{length}
 use Rattle.cubemap.specs.declared.Rotation.{Rotation}
 use Rattle.cubemap.specs.Interface.{Answer, isAccepted}
 use Rattle.cubemap.specs.Frames.{Frame, framed, planeSamples, placeAt, frameSample}
-use Rattle.cubemap.specs.Rotations.{identity, compose, CubeRotation}
-use Rattle.cubemap.specs.Checks.{ConvertSettings, targetShape}
+use Rattle.cubemap.specs.Rotations.{identity, compose}
+use Rattle.cubemap.specs.Checks.{ConvertSettings}
 use Rattle.cubemap.specs.Outcomes.{convertAnswer}
 use Rattle.cubemap.specs.Promises.{ConvertCall}
 use Rattle.sequences.specs.Steps.{ledTo}
@@ -77,25 +76,3 @@ unfoldable pub acceptedRotations : Model → List Told → List Rotation
 acceptedRotations b [] = []
 acceptedRotations b (c ∷ cs) =
     cond (accepts c (b .frame .bytes)) (c .settings .rotation ∷ acceptedRotations (afterCall b c) cs) (acceptedRotations (afterCall b c) cs)
-
--- ---- the frames of a list, as the calls leave them
-
--- what a call leaves to the next: what it wrote where it is accepted, else the frame left to it
-unfoldable pub leftBy : Frame → ConvertCall → Frame
-leftBy F c =
-    cond (accepts (told c) (c .source))
-    (record { shape = targetShape (c .settings); layout = c .settings .targetLayout; bytes = c .targetAfter })
-    F
-
--- "the frame that the last accepted conversion wrote, or the first"
-unfoldable pub lastFrame : Frame → List ConvertCall → Frame
-lastFrame F [] = F
-lastFrame F (c ∷ cs) = lastFrame (leftBy F c) cs
-
--- "An accepted conversion names for its source that frame's own size, depth, format and layout"; it goes by a whole-cube turn to a frame "of the
--- same size, depth and format"
-pub record OwnCubeTurn (F : Frame) (s : ConvertSettings) : Type 0 where
-  pub own-shape : s .sourceShape ≡ F .shape
-  pub own-layout : s .sourceLayout ≡ F .layout
-  pub same-shape : targetShape s ≡ F .shape
-  pub cube : CubeRotation (s .rotation)

@@ -2,7 +2,6 @@
 -- is the old frame's at the place with ray R·r/S; exactly one place has that ray."
 use mathlib.Core.Path.{_≡_}
 use mathlib.Core.Bool.{Bool, _&&_}
-use lib.Dec.{T}
 use Rattle.arithmetic.specs.Integers.{equalℤ}
 use Rattle.arithmetic.specs.Searches.{lowest}
 use Rattle.cubemap.specs.declared.Place.{Place}
@@ -18,19 +17,19 @@ use Rattle.cubemap.specs.Rotations.{sumOfSquares, rotated}
 abbrev pub rayIn : Shape → Place → Ray
 rayIn z P = rayOf (formatOf (z .format)) (z .size) P
 
+-- the step by t leads from P to the place Q: R·r/S, where r is the ray of P, is the ray of Q; so R·r is S times the ray of Q
+pub record Leads (z : Shape) (t : Rotation) (P Q : Place) : Type 0 where
+  pub is-place : IsPlace (z .size) Q
+  pub same-ray : rotated t (rayIn z P) ≡ times (sumOfSquares t) (rayIn z Q)
+
+-- the same as a test
 abbrev pub sameRay : Ray → Ray → Bool
 sameRay u v = equalℤ (u .x) (v .x) && equalℤ (u .y) (v .y) && equalℤ (u .z) (v .z)
 
--- is R·r/S, where r is the ray of P, the ray of Q? R·r is S times the ray of Q
 abbrev pub leads : Shape → Rotation → Place → Place → Bool
 leads z t P Q = sameRay (rotated t (rayIn z P)) (times (sumOfSquares t) (rayIn z Q))
 
--- the step by t leads from P to the place Q
-pub record Leads (z : Shape) (t : Rotation) (P Q : Place) : Type 0 where
-  pub is-place : IsPlace (z .size) Q
-  pub same-ray : T (leads z t P Q)
-
--- the place that the step by t leads to from P: "the place with ray R·r/S". (Exactly one has it where the size is 1 to 512 and t is a whole-cube turn
+-- the place that the step by t leads to from P: "the place with ray R·r/S". (Exactly one has it where the size is at most 512 and t is a whole-cube turn
 -- that is not all zero.)
 unfoldable pub ledTo : Shape → Rotation → Place → Place
 ledTo z t P = placeNumbered (z .size) (lowest (λ k. leads z t P (placeNumbered (z .size) k)) (planeSamples (z .size)))

@@ -1,0 +1,217 @@
+-- Demand 3 is false of each wrong converter and of the invented score: a quarter turn of a frame of six samples tells them apart.
+-- Assumes nothing.
+use mathlib.Core.Path.{_≡_, refl, sym, _∙_, ap, subst}
+use mathlib.Core.Bool.{Bool, true, cond}
+use mathlib.Core.List.{List, [], _∷_}
+use Prim.Native.Nat.{ℕ}
+use native.Mathlib.Omega.{arith}
+use lib.Dec.{T}
+use lib.ListN.{getD, replicate}
+use Rattle.arithmetic.specs.Searches.{largest, lowestFrom, allBelow}
+use Rattle.arithmetic.specs.Sums.{sumBelow}
+use Rattle.arithmetic.proofs.Tests.{cond-true}
+use Rattle.cubemap.specs.Interface.{accepted, returnCode, putAt, putAll}
+use Rattle.cubemap.specs.Frames.{Frame, shapeOf, framed, samplesIn, bytesIn, usualLayout, slotOf, quarterTurns, indexInSlot, index}
+use Rattle.cubemap.specs.Frames.{placeNumbered, placeAt}
+use Rattle.cubemap.specs.PlaceToRay.{times, table3, rayOf}
+use Rattle.cubemap.specs.Rotations.{sumOfSquares, rotated, isCubeRotation}
+use Rattle.cubemap.specs.RayToPlace.{faceOf, chosenSize, across, down, adjusted, position64, locate}
+use Rattle.cubemap.specs.Samplers.{nearestColumn, nearestPlace, sampleFrom}
+use Rattle.cubemap.specs.Score.{weightOf, weight, squaredDifference, overPlaces, errorSum, weightSum}
+use Rattle.cubemap.specs.Checks.{ConvertSettings, convertSettings, targetShape, firstFailed, sizeOK, depthOK, codeOK, layoutOK, rotationInRange}
+use Rattle.cubemap.specs.Checks.{rotationNonzero, lengthOK, samplesOK, lowestBeyond}
+use Rattle.cubemap.specs.Checks.{sizeChecks, settingChecks, lengthChecks, beforeSamples, convertChecks, scoreChecks}
+use Rattle.cubemap.specs.Outcomes.{written, sourcePosition, valueAt, convertedSample, convertedBytes, convertAnswer, convertOutcome, scoreResult}
+use Rattle.cubemap.specs.Promises.{ConvertCall, convertCall, ConvertPromise, ScoreCall}
+use Rattle.cubemap.specs.Marked.{cmp, rotationℕ}
+use Rattle.sequences.specs.Steps.{ledTo}
+use Rattle.sequences.specs.Model.{told, toldAll, answerTo, accepts, movedFrame, afterCall, afterCalls, modelOf}
+use Rattle.sequences.specs.Runs.{leftBy, lastFrame, Each, OwnCubeTurn, Converter, Keeping, Run}
+use Rattle.sequences.specs.Demand3.{Answered, Scorer, scoring, paperScore, Demand3}
+use Rattle.sequences.specs.Excluded.{Leaves, Writes, Copies, TurnsFirst, Grey, WritesNothing, Answers1, Invents, Excluded}
+
+-- ---- a frame of six samples, turned once and twice by a quarter, (1,0,1,0)
+
+abbrev settings : ConvertSettings
+settings = convertSettings (shapeOf 1 8 cmp) 1 cmp 0 usualLayout usualLayout (rotationℕ 1 0 1 0)
+
+abbrev frame : List ℕ → Frame
+frame bytes = record { shape = shapeOf 1 8 cmp; layout = usualLayout; bytes = bytes }
+
+abbrev first : List ℕ
+first = 10 ∷ 0 ∷ 11 ∷ 0 ∷ 12 ∷ 0 ∷ 13 ∷ 0 ∷ 14 ∷ 0 ∷ 15 ∷ 0 ∷ []
+
+abbrev once : List ℕ
+once = 11 ∷ 0 ∷ 12 ∷ 0 ∷ 14 ∷ 0 ∷ 13 ∷ 0 ∷ 10 ∷ 0 ∷ 15 ∷ 0 ∷ []
+
+abbrev twice : List ℕ
+twice = 12 ∷ 0 ∷ 14 ∷ 0 ∷ 10 ∷ 0 ∷ 13 ∷ 0 ∷ 11 ∷ 0 ∷ 15 ∷ 0 ∷ []
+
+abbrev room : List ℕ
+room = replicate 12 0
+
+-- a call of a wrong converter: what it returned, and what it left in the target
+abbrev call : List ℕ → ℕ → List ℕ → ConvertCall
+call source returned after = convertCall settings source room returned usualLayout usualLayout source after
+
+head : List ℕ → ℕ
+head bytes = getD bytes 0 0
+
+-- one call on the first frame, accepted, and what the model makes of it, whatever the call returned and left
+record Turned (returned : ℕ) (after : List ℕ) : Type 0 where
+  accepts-it : T (accepts (told (call first returned after)) first)
+  answered : returnCode (answerTo (told (call first returned after)) first) ≡ 0
+  left : lastFrame (frame first) (call first returned after ∷ []) ≡ frame after
+  model : modelOf (frame first) (call first returned after ∷ []) .frame ≡ frame once
+
+turned : (returned : ℕ) (after : List ℕ) → Turned returned after
+unfolding lowestFrom allBelow sumBelow
+    framed samplesIn bytesIn slotOf quarterTurns indexInSlot index placeNumbered placeAt times table3 rayOf sumOfSquares rotated
+    targetShape firstFailed sizeOK depthOK codeOK layoutOK rotationInRange rotationNonzero lengthOK samplesOK lowestBeyond
+    sizeChecks settingChecks lengthChecks beforeSamples convertChecks convertAnswer
+    ledTo toldAll movedFrame afterCall afterCalls leftBy lastFrame
+turned returned after = record { accepts-it = tt; answered = refl; left = refl; model = refl }
+
+-- ---- what demand 3 makes of a converter's call on the first frame
+
+quarter : (bytes : List ℕ) → OwnCubeTurn (frame bytes) settings
+unfolding isCubeRotation sumOfSquares targetShape
+quarter bytes = record { own-shape = refl; own-layout = refl; same-shape = refl; cube = tt }
+
+module _ (M : Converter) (S : Scorer) (D : Demand3 M S) (returned : ℕ) (after : List ℕ) (made : M (call first returned after ∷ [])) where
+  run : Run M (frame first) (call first returned after ∷ [])
+  unfolding Each
+  run = record { made = made; reads = ((λ t. refl), tt); own = ((λ t. quarter first), tt) }
+
+  must-return : returned ≡ 0
+  unfolding Answered
+  must-return = D .kept (frame first) (call first returned after ∷ []) run .answered .0 .returns ∙ turned returned after .answered
+
+  must-leave : after ≡ once
+  must-leave = ap (λ F. F .bytes)
+      (sym (turned returned after .left) ∙ D .kept (frame first) (call first returned after ∷ []) run .frame ∙ turned returned after .model)
+
+-- a call on the first frame that answers as it must
+writes : (bytes : List ℕ) → Writes bytes (call first 0 bytes)
+writes bytes = record {
+  returns = sym (turned 0 bytes .answered);
+  holds = sym (cond-true (accepts (told (call first 0 bytes)) first) bytes room (turned 0 bytes .accepts-it));
+  source-stays = refl;
+  source-layout-stays = refl;
+  target-layout-stays = refl;
+}
+
+-- ---- the converters
+
+no-copies : (S : Scorer) → Demand3 (Keeping Copies) S → ⊥
+unfolding head Keeping
+no-copies S D = absurd (omega (arith, ap head (must-leave (Keeping Copies) S D 0 first (writes first, tt))))
+
+no-grey : (S : Scorer) → Demand3 (Keeping Grey) S → ⊥
+unfolding head Keeping framed
+no-grey S D = absurd (omega (arith, ap head (must-leave (Keeping Grey) S D 0 (framed (λ i. 128) 6) (writes (framed (λ i. 128) 6), tt))))
+
+-- a call that leaves the target as it was
+nothing : (code : ℕ) → Leaves code room (call first code room)
+nothing code = record { returns = refl; holds = refl; source-stays = refl; source-layout-stays = refl; target-layout-stays = refl }
+
+writes-something : (S : Scorer) → Demand3 (Keeping WritesNothing) S → ⊥
+unfolding head Keeping
+writes-something S D = absurd (omega (arith, ap head (must-leave (Keeping WritesNothing) S D 0 room (nothing 0, tt))))
+
+not-always-1 : (S : Scorer) → Demand3 (Keeping Answers1) S → ⊥
+unfolding Keeping
+not-always-1 S D = absurd (omega (arith, must-return (Keeping Answers1) S D 1 room (nothing 1, tt)))
+
+-- ---- the one that turns the first frame and copies later ones: a second quarter turn
+
+abbrev both : List ConvertCall
+both = call first 0 once ∷ call once 0 once ∷ []
+
+record TurnedTwice : Type 0 where
+  keeps : ConvertPromise (call first 0 once)
+  copies : Copies (call once 0 once)
+  reads : leftBy (frame first) (call first 0 once) ≡ frame once
+  left : lastFrame (frame first) both ≡ frame once
+  model : modelOf (frame first) both .frame ≡ frame twice
+
+turned-twice : TurnedTwice
+unfolding lowestFrom allBelow sumBelow
+    framed samplesIn bytesIn slotOf quarterTurns indexInSlot index placeNumbered placeAt times table3 rayOf sumOfSquares rotated
+    faceOf chosenSize across down adjusted position64 locate nearestColumn nearestPlace sampleFrom
+    targetShape firstFailed sizeOK depthOK codeOK layoutOK rotationInRange rotationNonzero lengthOK samplesOK lowestBeyond
+    sizeChecks settingChecks lengthChecks beforeSamples convertChecks
+    sourcePosition valueAt convertedSample convertedBytes convertAnswer convertOutcome
+    ledTo toldAll movedFrame afterCall afterCalls leftBy lastFrame
+turned-twice = record {
+  keeps = record { gives = record { returns = refl; holds = refl }; source-stays = refl; source-layout-stays = refl; target-layout-stays = refl };
+  copies = record { returns = refl; holds = refl; source-stays = refl; source-layout-stays = refl; target-layout-stays = refl };
+  reads = refl;
+  left = refl;
+  model = refl;
+}
+
+run-both : Run TurnsFirst (frame first) both
+unfolding TurnsFirst Keeping Each
+run-both = record {
+  made = (turned-twice .keeps, (turned-twice .copies, tt));
+  reads = ((λ t. refl), ((λ t. ap (λ F. F .bytes) (sym (turned-twice .reads))), tt));
+  own = ((λ t. quarter first), ((λ t. subst (λ F. OwnCubeTurn F settings) (sym (turned-twice .reads)) (quarter once)), tt));
+}
+
+no-turns-first : (S : Scorer) → Demand3 TurnsFirst S → ⊥
+unfolding head
+no-turns-first S D = absurd (omega (
+  arith,
+  ap (λ F. head (F .bytes))
+      (sym (turned-twice .left) ∙ D .kept (frame first) both run-both .frame ∙ turned-twice .model),
+))
+
+-- ---- the invented sum: the frame against itself has no error
+
+abbrev sums : List ℕ
+sums = replicate 16 0
+
+abbrev scoring-first : List ℕ → ScoreCall
+scoring-first after = record {
+  settings = scoring (frame first) (frame first);
+  first = first;
+  second = first;
+  buffer = sums;
+  returned = 0;
+  firstLayoutAfter = usualLayout;
+  secondLayoutAfter = usualLayout;
+  firstAfter = first;
+  secondAfter = first;
+  bufferAfter = after;
+}
+
+record Scored : Type 0 where
+  after : List ℕ
+  invents : Invents (scoring-first after)
+  heads : head after ≡ 1
+  true-head : head (written (paperScore (frame first) (frame first)) sums .bytes) ≡ 0
+
+scored : Scored
+unfolding largest lowestFrom allBelow sumBelow putAt putAll head
+    framed samplesIn bytesIn slotOf quarterTurns indexInSlot index
+    weightOf weight squaredDifference overPlaces errorSum weightSum
+    firstFailed sizeOK depthOK codeOK layoutOK lengthOK samplesOK lowestBeyond scoreChecks scoreResult
+scored = record { after = _; invents = record { returns = refl; holds = refl }; heads = refl; true-head = refl }
+
+no-invents : (M : Converter) → Demand3 M Invents → ⊥
+no-invents M D = absurd (omega (
+  arith,
+  sym (scored .heads) ∙ ap head (D .given (frame first) (frame first) (scoring-first (scored .after)) refl
+      (record { settings-are = refl; first-is = refl; second-is = refl }) (scored .invents) .holds) ∙ scored .true-head,
+))
+
+pub excluded : Excluded
+excluded = record {
+  copies = no-copies;
+  turns-first = no-turns-first;
+  grey = no-grey;
+  writes-nothing = writes-something;
+  answers-1 = not-always-1;
+  invents = no-invents;
+}

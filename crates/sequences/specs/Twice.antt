@@ -1,0 +1,34 @@
+-- What a function that turns a frame twice promises: demand 3's conclusion, of the list of the two calls that it makes.
+use mathlib.Core.Path.{_≡_}
+use mathlib.Core.Bool.{cond}
+use mathlib.Core.List.{List, [], _∷_}
+use Prim.Native.Nat.{ℕ}
+use lib.Dec.{eqb}
+use Rattle.cubemap.specs.declared.Rotation.{Rotation}
+use Rattle.cubemap.specs.declared.Shape.{Shape}
+use Rattle.cubemap.specs.Frames.{Frame}
+use Rattle.cubemap.specs.Rotations.{composeAll}
+use Rattle.cubemap.specs.Checks.{convertSettings}
+use Rattle.cubemap.specs.Promises.{ConvertCall, convertCall}
+use Rattle.sequences.specs.declared.Codes.{Codes}
+use Rattle.sequences.specs.Demand3.{Moved, Kept}
+
+-- a frame of the shape z in the layout L
+abbrev pub frameOf : Shape → List ℕ → List ℕ → Frame
+frameOf z L bytes = record { shape = z; layout = L; bytes = bytes }
+
+-- the call by the turn t, from such a frame to such a frame: the buffers before it, what it returned, the buffers after it
+abbrev pub turnCall : Shape → ℕ → List ℕ → Rotation → List ℕ → List ℕ → ℕ → List ℕ → List ℕ → List ℕ → ConvertCall
+turnCall z sampler L t source target returned layoutAfter sourceAfter targetAfter =
+    convertCall (convertSettings z (z .size) (z .format) sampler L L t) source target returned layoutAfter layoutAfter sourceAfter targetAfter
+
+pub record TurnedTwice (z : Shape) (sampler : ℕ) (L : List ℕ) (first later : Rotation) (source middle target : List ℕ) (r : Codes)
+    (layoutAfter sourceAfter middleAfter targetAfter : List ℕ) : Type 0 where
+  -- the whole conclusion: of a call from the source into the middle, and one from there, or from the source where that one was refused, into the target
+  pub kept : Kept (frameOf z L source) (
+      turnCall z sampler L first source middle (r .first) layoutAfter sourceAfter middleAfter
+      ∷ turnCall z sampler L later (cond (eqb (r .first) 0) middleAfter source) target (r .later) layoutAfter
+      (cond (eqb (r .first) 0) middleAfter sourceAfter) targetAfter
+      ∷ [])
+  -- where both answer 0, each sample of the source stands unchanged exactly once in the target, at the place that the fold of the two turns gives
+  pub moved : r .first ≡ 0 → r .later ≡ 0 → Moved (frameOf z L source) (frameOf z L targetAfter) (composeAll (first ∷ later ∷ []))
