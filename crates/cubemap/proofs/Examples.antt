@@ -9,7 +9,8 @@ use Rattle.cubemap.specs.declared.Shape.{Shape}
 use Rattle.cubemap.specs.Interface.{putAt, putAll}
 use Rattle.cubemap.specs.Frames.{framed, samplesIn, bytesIn, slotOf, quarterTurns, indexInSlot, index, placeNumbered, placeAt}
 use Rattle.cubemap.specs.PlaceToRay.{table3, rayOf}
-use Rattle.cubemap.specs.Rotations.{rotated, product, commonDivisor, divided, signNormalized, compose, sameRotation}
+use Rattle.cubemap.specs.Rotations.{sumOfSquares, rotated, isCubeRotation, product, commonDivisor, divided, signNormalized}
+use Rattle.cubemap.specs.Rotations.{compose, composeFrom, sameRotation}
 use Rattle.cubemap.specs.RayToPlace.{faceOf, chosenSize, across, down, adjusted, position64, locate}
 use Rattle.cubemap.specs.Samplers.{nearestColumn, nearestPlace, base, phase, tapPlace, tapWeight, cubicSum, rounded, sampleFrom}
 use Rattle.cubemap.specs.Checks.{firstFailed, sizeOK, depthOK, codeOK, layoutOK, rotationInRange, rotationNonzero}
@@ -28,7 +29,7 @@ frame-bytes z = omega arith
 pub examples : Examples
 unfolding largest lowestFrom allBelow sumBelow putAt putAll
     framed samplesIn bytesIn slotOf quarterTurns indexInSlot index placeNumbered placeAt
-    table3 rayOf rotated product commonDivisor divided signNormalized compose sameRotation
+    table3 rayOf sumOfSquares rotated isCubeRotation product commonDivisor divided signNormalized compose composeFrom sameRotation
     faceOf chosenSize across down adjusted position64 locate
     nearestColumn nearestPlace base phase tapPlace tapWeight cubicSum rounded sampleFrom
     firstFailed sizeOK depthOK codeOK layoutOK rotationInRange rotationNonzero lengthOK samplesOK lowestBeyond rayInRange rayNonzero
@@ -46,6 +47,9 @@ examples = record {
   cubic-halves = (refl, refl);
   sign = refl;
   lowest-terms = refl;
+  fold-of-none = refl;
+  fold-of-two = refl;
+  cube-turns = (tt, tt, (λ t. absurd t));
   equal-by-sign = refl;
   equal-by-factor = refl;
   not-equal = refl;

@@ -13,7 +13,7 @@ use Rattle.cubemap.specs.declared.Shape.{Shape}
 use Rattle.cubemap.specs.Interface.{accepted, answer, returnCode, littleEndian, twosComplement}
 use Rattle.cubemap.specs.Frames.{shapeOf, framed, bytesIn, usualLayout}
 use Rattle.cubemap.specs.PlaceToRay.{ray}
-use Rattle.cubemap.specs.Rotations.{rotation}
+use Rattle.cubemap.specs.Rotations.{rotation, CubeRotation, composeAll}
 use Rattle.cubemap.specs.Samplers.{base, phase, rounded}
 use Rattle.cubemap.specs.Checks.{ConvertSettings}
 use Rattle.cubemap.specs.Outcomes.{result, outcome, lookUpResult, foldResult, foldOutcome, equalResult, scoreOutcome, convertOutcome}
@@ -81,6 +81,11 @@ pub record Examples : Type 0 where
   pub lowest-terms :
       foldResult (rotationℕ 31 1 0 0) (rotation (pos 31) (minus 1) (pos 0) (pos 0))
       ≡ result accepted (pos 1 ∷ pos 0 ∷ pos 0 ∷ pos 0 ∷ [])
+  -- "A sequence of turns folds one by one from (1,0,0,0), which is also the fold of none": P9's two turns
+  pub fold-of-none : composeAll [] ≡ rotationℕ 1 0 0 0
+  pub fold-of-two : composeAll (rotationℕ 1 1 0 0 ∷ rotationℕ 1 0 1 0 ∷ []) ≡ rotationℕ 1 1 1 1
+  -- "nine entries .. each 0 or ± the sum of the four squares": a quarter and a third of a turn; (3,1,2,0), whose first entry is 6 of 14
+  pub cube-turns : CubeRotation (rotationℕ 1 0 1 0) × CubeRotation (rotationℕ 1 1 1 1) × (CubeRotation (rotationℕ 3 1 2 0) → ⊥)
   -- turns that differ by sign, or by a factor, are equal
   pub equal-by-sign : equalResult (rotationℕ 1 0 1 0) (rotation (minus 1) (pos 0) (minus 1) (pos 0)) ≡ result accepted (pos 1 ∷ [])
   pub equal-by-factor : equalResult (rotationℕ 1 0 1 0) (rotationℕ 31 0 31 0) ≡ result accepted (pos 1 ∷ [])

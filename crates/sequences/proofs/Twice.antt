@@ -44,7 +44,10 @@ module _ (z : Shape) (sampler : ℕ) (L : List ℕ) (t u : Rotation) (source mid
   abbrev call2 : ConvertCall
   call2 = turnCall z sampler L u read target (r .later) layoutAfter (cond (eqb (r .first) 0) middleAfter sourceAfter) targetAfter
 
-  module _ (p : ConvertPromise call1) (q : ConvertPromise call2) (c : CubeRotation t) (d : CubeRotation u) where
+  abbrev calls : List ConvertCall
+  calls = call1 ∷ call2 ∷ []
+
+  module _ (p : ConvertPromise call1) (q : ConvertPromise call2) where
     left : leftBy F call1 ≡ frameOf z L read
     unfolding leftBy targetShape
     left = ap (λ b. cond b (frameOf z L middleAfter) F) (answers-0 call1 p) ∙ either (eqb (r .first) 0)
@@ -53,31 +56,37 @@ module _ (z : Shape) (sampler : ℕ) (L : List ℕ) (t u : Rotation) (source mid
         either true = refl
         either false = refl
 
-    kept : Kept F (call1 ∷ call2 ∷ [])
-    unfolding Keeping Each
-    kept = permanence .kept F (call1 ∷ call2 ∷ []) (record {
-      made = (p, (q, tt));
+    made : Keeping ConvertPromise calls
+    unfolding Keeping
+    made = (p, (q, tt))
+
+    kept : CubeRotation t → CubeRotation u → Kept F calls
+    unfolding Each
+    kept c d = permanence .kept F calls (record {
+      made = made;
       reads = ((λ b. refl), ((λ b. ap (λ G. G .bytes) (sym left)), tt));
       own = ((λ b. own-turn z sampler L t source c), ((λ b. subst (λ G. OwnCubeTurn G (call2 .settings)) (sym left) (own-turn z sampler L u read d)), tt));
     })
 
-    module _ (e : r .first ≡ 0) (f : r .later ≡ 0) where
+    -- ---- where both answer 0
+
+    module _ (c : CubeRotation t) (d : CubeRotation u) (e : r .first ≡ 0) (f : r .later ≡ 0) where
       accepts1 : T (accepts (told call1) source)
       accepts1 = subst T (sym (answers-0 call1 p)) (subst (λ n. T (eqb n 0)) (sym e) tt)
 
       accepts2 : T (accepts (told call2) read)
       accepts2 = subst T (sym (answers-0 call2 q)) (subst (λ n. T (eqb n 0)) (sym f) tt)
 
-      last : lastFrame F (call1 ∷ call2 ∷ []) ≡ frameOf z L targetAfter
+      last : lastFrame F calls ≡ frameOf z L targetAfter
       unfolding lastFrame leftBy targetShape
       last = cond-true (accepts (told call2) read) (frameOf z L targetAfter) (leftBy F call1) accepts2
 
-      turns : acceptedRotations (atStart F) (toldAll (call1 ∷ call2 ∷ [])) ≡ t ∷ u ∷ []
+      turns : acceptedRotations (atStart F) (toldAll calls) ≡ t ∷ u ∷ []
       unfolding acceptedRotations toldAll Answered
       turns =
           cond-true (accepts (told call1) source) _ _ accepts1
           ∙ ap (λ us. t ∷ us) (cond-true (accepts (told call2) (after .frame .bytes)) (u ∷ []) []
-          (returned-0 (answerTo (told call2) (after .frame .bytes)) (sym (kept .answered .1 .0 .returns) ∙ f)))
+          (returned-0 (answerTo (told call2) (after .frame .bytes)) (sym (kept c d .answered .1 .0 .returns) ∙ f)))
         where
           after : Model
           after = afterCall (atStart (frameOf z L source)) (told call1)
@@ -87,15 +96,15 @@ module _ (z : Shape) (sampler : ℕ) (L : List ℕ) (t u : Rotation) (source mid
 
       moved : Moved F (frameOf z L targetAfter) (composeAll (t ∷ u ∷ []))
       moved = subst (λ G. Moved F G (composeAll (t ∷ u ∷ []))) last
-          (subst (λ x. Moved F (lastFrame F (call1 ∷ call2 ∷ [])) x) (kept .fold ∙ ap composeAll turns) (kept .moved size))
-
-    both-turned : TurnedTwice z sampler L t u source middle target r layoutAfter sourceAfter middleAfter targetAfter
-    both-turned = record { kept = kept; moved = moved }
+          (subst (λ x. Moved F (lastFrame F calls) x) (kept c d .fold ∙ ap composeAll turns) (kept c d .moved size))
 
   -- by what the first call answered
   pub turned-twice : (b : Bool) → eqb (r .first) 0 ≡ b → ConvertPromise call1
       → ConvertPromise (turnCall z sampler L u (cond b middleAfter source) target (r .later) layoutAfter (cond b middleAfter sourceAfter) targetAfter)
-      → CubeRotation t → CubeRotation u → TurnedTwice z sampler L t u source middle target r layoutAfter sourceAfter middleAfter targetAfter
-  turned-twice b e p q = both-turned p (subst
-      (λ b. ConvertPromise (turnCall z sampler L u (cond b middleAfter source) target (r .later) layoutAfter (cond b middleAfter sourceAfter) targetAfter))
-      (sym e) q)
+      → TurnedTwice z sampler L t u source middle target r layoutAfter sourceAfter middleAfter targetAfter
+  turned-twice b e p k = record { made = made p q; kept = kept p q; moved = moved p q }
+    where
+      q : ConvertPromise call2
+      q = subst
+          (λ b. ConvertPromise (turnCall z sampler L u (cond b middleAfter source) target (r .later) layoutAfter (cond b middleAfter sourceAfter) targetAfter))
+          (sym e) k

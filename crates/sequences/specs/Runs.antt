@@ -40,8 +40,8 @@ passesBeforeSamples c = isAccepted (firstFailed (beforeSamples (c .settings) (c 
 abbrev pub Reads : Frame → ConvertCall → Type 0
 Reads F c = T (passesBeforeSamples (told c)) → c .source ≡ F .bytes
 
--- "An accepted conversion names for its source that frame's own size, depth, format and layout"; it goes by a whole-cube turn to a frame "of the
--- same size, depth and format", "with either sampler and any layouts"
+-- "An accepted conversion names for its source that frame's own size, depth, format and layout"; it goes "by whole-cube turns to the first frame's own
+-- size, depth and format", which the frame left to it has too, "with either sampler and any layouts"
 pub record OwnCubeTurn (F : Frame) (s : ConvertSettings) : Type 0 where
   pub own-shape : s .sourceShape ≡ F .shape
   pub own-layout : s .sourceLayout ≡ F .layout

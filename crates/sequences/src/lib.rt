@@ -1,6 +1,5 @@
 // Lists of conversions by cube rotations. What such a list is held to stands in specs/, and that it is so is proved in proofs/ of every program whose
 // calls keep the promises. The function here is one such program: its contract is drawn from that theorem.
-ghost use Rattle.cubemap.specs.Rotations.{CubeRotation};
 ghost use Rattle.cubemap.specs.Promises.{ConvertPromise};
 ghost use Rattle.sequences.specs.Twice.{turnCall, TurnedTwice};
 use cubemap::Rotation;
@@ -53,9 +52,9 @@ pub fn turn_twice(
     middle: &mut [u8],
     target: &mut [u8],
 ) -> Codes
-    ensures { λ r. ⌜ (CubeRotation first → CubeRotation later → TurnedTwice shape sampler (now (layout .entry)) first later
+    ensures { λ r. ⌜ TurnedTwice shape sampler (now (layout .entry)) first later
         (now (source .entry)) (now (middle .entry)) (now (target .entry)) r
-        (now (layout .exit)) (now (source .exit)) (now (middle .exit)) (now (target .exit))) ⌝ }
+        (now (layout .exit)) (now (source .exit)) (now (middle .exit)) (now (target .exit)) ⌝ }
 {
     let first_code = turn(shape, sampler, layout, first, source, middle);
     if first_code == 0 {
