@@ -1,9 +1,9 @@
 -- One call of a run: the model answers it as it was answered, and the frame that it leaves is the model's.
 use mathlib.Core.Path.{_≡_, refl, sym, _∙_, ap, ap₂, subst}
 use mathlib.Core.Logic.{_⊎_, inl, inr}
-use mathlib.Core.Bool.{Bool, true, false, cond, not}
+use mathlib.Core.Bool.{Bool, true, false, cond}
 use mathlib.Core.List.{List, [], _∷_}
-use Prim.Native.Nat.{ℕ, _<_}
+use Prim.Native.Nat.{_<_}
 use lib.Dec.{T, T-not, eqb, eqb→eq}
 use lib.ListN.{length}
 use Rattle.arithmetic.proofs.Tests.{passes, fails, same-test, cond-true, cond-false}
@@ -21,14 +21,14 @@ use Rattle.cubemap.proofs.ConvertChecks.{answer-accepted, answer-cong, accepted
 use Rattle.cubemap.proofs.Layouts.{layout-holds}
 use Rattle.cubemap.proofs.Framed.{planeOf, planeOf-cong}
 use Rattle.cubemap.proofs.Rotations.{LeadsTo, sum-positive}
-use Rattle.cubemap.proofs.CubeRotations.{CubeMatrix, cube-matrix}
+use Rattle.cubemap.proofs.CubeRotations.{cube-matrix}
 use Rattle.cubemap.proofs.Conversion.{converted-frame, accepted-passed, converted-own}
 use Rattle.sequences.specs.Steps.{rayIn, Leads, ledTo}
 use Rattle.sequences.specs.Model.{told, answerTo, accepts, Model, movedFrame, afterAccepted, afterCall}
 use Rattle.sequences.specs.Runs.{leftBy, Each, Reads, OwnCubeTurn, AcceptedAreOwn, Keeping}
 use Rattle.sequences.specs.Demand3.{Answers}
 use Rattle.sequences.proofs.Steps.{cube-matched}
-use Rattle.sequences.proofs.Frames.{FrameHolds, source-holds}
+use Rattle.sequences.proofs.Frames.{source-holds}
 
 -- what a run says of one call and the frame left to it
 pub record Fair (F : Frame) (c : ConvertCall) : Type 0 where

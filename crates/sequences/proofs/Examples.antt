@@ -21,15 +21,24 @@ use Rattle.sequences.specs.Model.{toldAll, movedFrame, afterCall, afterC
 use Rattle.sequences.specs.Runs.{leftBy, Each, Keeping}
 use Rattle.sequences.specs.Examples.{made, Exists, Examples}
 
+-- what the definition makes keeps the promise
+keeps : (s : ConvertSettings) (source : List ℕ) → ConvertPromise (made s source)
+keeps s source = record {
+  gives = record { returns = refl; holds = refl };
+  source-stays = refl;
+  source-layout-stays = refl;
+  target-layout-stays = refl;
+}
+
 pub examples : Examples
 unfolding largest lowestFrom allBelow sumBelow
     framed samplesIn bytesIn slotOf quarterTurns indexInSlot index placeNumbered placeAt
-    times table3 rayOf sumOfSquares rotated product commonDivisor divided signNormalized compose composeFrom
+    times table3 rayOf sumOfSquares rotated isCubeRotation product commonDivisor divided signNormalized compose composeFrom
     faceOf chosenSize across down adjusted position64 locate base phase tapPlace tapWeight cubicSum rounded sampleFrom
     targetShape firstFailed sizeOK depthOK codeOK layoutOK rotationInRange rotationNonzero
     lengthOK samplesOK lowestBeyond sizeChecks settingChecks lengthChecks beforeSamples convertChecks
     sourcePosition valueAt convertedSample convertedBytes convertAnswer convertOutcome
-    ledTo toldAll movedFrame afterCall afterCalls acceptedRotations leftBy
+    ledTo toldAll movedFrame afterCall afterCalls acceptedRotations leftBy Each Keeping
 examples = record {
   step = refl;
   refused = λ bytes. refl;
@@ -41,34 +50,19 @@ examples = record {
   layout = refl;
   says-0 = refl;
   says-1 = λ after. refl;
-}
-
--- what the definition makes keeps the promise
-keeps : (s : ConvertSettings) (source : List ℕ) → ConvertPromise (made s source)
-keeps s source = record {
-  gives = record { returns = refl; holds = refl };
-  source-stays = refl;
-  source-layout-stays = refl;
-  target-layout-stays = refl;
-}
-
-pub exists : Exists
-unfolding lowestFrom allBelow sumBelow
-    framed samplesIn bytesIn slotOf quarterTurns indexInSlot index placeNumbered placeAt
-    table3 rayOf sumOfSquares rotated isCubeRotation
-    faceOf chosenSize across down adjusted position64 locate base phase tapPlace tapWeight cubicSum rounded sampleFrom
-    targetShape firstFailed sizeOK depthOK codeOK layoutOK rotationInRange rotationNonzero
-    lengthOK samplesOK lowestBeyond sizeChecks settingChecks lengthChecks beforeSamples convertChecks
-    sourcePosition valueAt convertedSample convertedBytes convertAnswer convertOutcome
-    leftBy Each Keeping
-exists = record {
-  run = record {
-    made = (keeps _ _, (keeps _ _, (keeps _ _, tt)));
-    reads = ((λ t. refl), ((λ t. absurd t), ((λ t. refl), tt)));
-    own = (
-      (λ t. record { own-shape = refl; own-layout = refl; same-shape = refl; cube = tt }),
-      ((λ t. absurd t), ((λ t. record { own-shape = refl; own-layout = refl; same-shape = refl; cube = tt }), tt)),
-    );
+  exists = record {
+    run = record {
+      made = (keeps _ _, (keeps _ _, (keeps _ _, tt)));
+      reads = ((λ t. refl), ((λ t. absurd t), ((λ t. refl), tt)));
+      own = (
+        (λ t. record { own-shape = refl; own-layout = refl; same-shape = refl; cube = tt }),
+        ((λ t. absurd t), ((λ t. record { own-shape = refl; own-layout = refl; same-shape = refl; cube = tt }), tt)),
+      );
+    };
+    answers = (refl, refl, refl);
   };
-  answers = (refl, refl, refl);
 }
+
+-- runs exist
+pub exists : Exists
+exists = examples .exists

@@ -1,7 +1,6 @@
 -- Demand 3 is false of each wrong converter and of the invented score: a quarter turn of a frame of six samples tells them apart.
 -- Assumes nothing.
 use mathlib.Core.Path.{_≡_, refl, sym, _∙_, ap, subst}
-use mathlib.Core.Bool.{Bool, true, cond}
 use mathlib.Core.List.{List, [], _∷_}
 use Prim.Native.Nat.{ℕ}
 use native.Mathlib.Omega.{arith}
@@ -10,7 +9,7 @@ use lib.ListN.{getD, replicate}
 use Rattle.arithmetic.specs.Searches.{largest, lowestFrom, allBelow}
 use Rattle.arithmetic.specs.Sums.{sumBelow}
 use Rattle.arithmetic.proofs.Tests.{cond-true}
-use Rattle.cubemap.specs.Interface.{accepted, returnCode, putAt, putAll}
+use Rattle.cubemap.specs.Interface.{returnCode, putAt, putAll}
 use Rattle.cubemap.specs.Frames.{Frame, shapeOf, framed, samplesIn, bytesIn, usualLayout, slotOf, quarterTurns, indexInSlot, index}
 use Rattle.cubemap.specs.Frames.{placeNumbered, placeAt}
 use Rattle.cubemap.specs.PlaceToRay.{times, table3, rayOf}
@@ -57,20 +56,42 @@ call source returned after = convertCall settings source room returned usualLayo
 head : List ℕ → ℕ
 head bytes = getD bytes 0 0
 
--- one call on the first frame, accepted, and what the model makes of it, whatever the call returned and left
-record Turned (returned : ℕ) (after : List ℕ) : Type 0 where
-  accepts-it : T (accepts (told (call first returned after)) first)
-  answered : returnCode (answerTo (told (call first returned after)) first) ≡ 0
-  left : lastFrame (frame first) (call first returned after ∷ []) ≡ frame after
-  model : modelOf (frame first) (call first returned after ∷ []) .frame ≡ frame once
+abbrev both : List ConvertCall
+both = call first 0 once ∷ call once 0 once ∷ []
 
-turned : (returned : ℕ) (after : List ℕ) → Turned returned after
+-- what the definitions make of these calls
+record Computed : Type 0 where
+  -- one call on the first frame is accepted, and the model turns the frame, whatever the call returned and left
+  accepted-once : (returned : ℕ) (after : List ℕ) → T (accepts (told (call first returned after)) first)
+  answer-once : (returned : ℕ) (after : List ℕ) → returnCode (answerTo (told (call first returned after)) first) ≡ 0
+  left-once : (returned : ℕ) (after : List ℕ) → lastFrame (frame first) (call first returned after ∷ []) ≡ frame after
+  model-once : (returned : ℕ) (after : List ℕ) → modelOf (frame first) (call first returned after ∷ []) .frame ≡ frame once
+  -- a call that keeps the promise, and one behind it that copies
+  keeps : ConvertPromise (call first 0 once)
+  copies : Copies (call once 0 once)
+  between : leftBy (frame first) (call first 0 once) ≡ frame once
+  left-twice : lastFrame (frame first) both ≡ frame once
+  model-twice : modelOf (frame first) both .frame ≡ frame twice
+
+computed : Computed
 unfolding lowestFrom allBelow sumBelow
     framed samplesIn bytesIn slotOf quarterTurns indexInSlot index placeNumbered placeAt times table3 rayOf sumOfSquares rotated
+    faceOf chosenSize across down adjusted position64 locate nearestColumn nearestPlace sampleFrom
     targetShape firstFailed sizeOK depthOK codeOK layoutOK rotationInRange rotationNonzero lengthOK samplesOK lowestBeyond
-    sizeChecks settingChecks lengthChecks beforeSamples convertChecks convertAnswer
+    sizeChecks settingChecks lengthChecks beforeSamples convertChecks
+    sourcePosition valueAt convertedSample convertedBytes convertAnswer convertOutcome
     ledTo toldAll movedFrame afterCall afterCalls leftBy lastFrame
-turned returned after = record { accepts-it = tt; answered = refl; left = refl; model = refl }
+computed = record {
+  accepted-once = λ returned after. tt;
+  answer-once = λ returned after. refl;
+  left-once = λ returned after. refl;
+  model-once = λ returned after. refl;
+  keeps = record { gives = record { returns = refl; holds = refl }; source-stays = refl; source-layout-stays = refl; target-layout-stays = refl };
+  copies = record { returns = refl; holds = refl; source-stays = refl; source-layout-stays = refl; target-layout-stays = refl };
+  between = refl;
+  left-twice = refl;
+  model-twice = refl;
+}
 
 -- ---- what demand 3 makes of a converter's call on the first frame
 
@@ -85,17 +106,17 @@ module _ (M : Converter) (S : Scorer) (D : Demand3 M S) (returned : ℕ) (after 
 
   must-return : returned ≡ 0
   unfolding Answered
-  must-return = D .kept (frame first) (call first returned after ∷ []) run .answered .0 .returns ∙ turned returned after .answered
+  must-return = D .kept (frame first) (call first returned after ∷ []) run .answered .0 .returns ∙ computed .answer-once returned after
 
   must-leave : after ≡ once
   must-leave = ap (λ F. F .bytes)
-      (sym (turned returned after .left) ∙ D .kept (frame first) (call first returned after ∷ []) run .frame ∙ turned returned after .model)
+      (sym (computed .left-once returned after) ∙ D .kept (frame first) (call first returned after ∷ []) run .frame ∙ computed .model-once returned after)
 
 -- a call on the first frame that answers as it must
 writes : (bytes : List ℕ) → Writes bytes (call first 0 bytes)
 writes bytes = record {
-  returns = sym (turned 0 bytes .answered);
-  holds = sym (cond-true (accepts (told (call first 0 bytes)) first) bytes room (turned 0 bytes .accepts-it));
+  returns = sym (computed .answer-once 0 bytes);
+  holds = sym (cond-true (accepts (told (call first 0 bytes)) first) bytes room (computed .accepted-once 0 bytes));
   source-stays = refl;
   source-layout-stays = refl;
   target-layout-stays = refl;
@@ -125,38 +146,12 @@ not-always-1 S D = absurd (omega (arith, must-return (Keeping Answers1) S D 1 ro
 
 -- ---- the one that turns the first frame and copies later ones: a second quarter turn
 
-abbrev both : List ConvertCall
-both = call first 0 once ∷ call once 0 once ∷ []
-
-record TurnedTwice : Type 0 where
-  keeps : ConvertPromise (call first 0 once)
-  copies : Copies (call once 0 once)
-  reads : leftBy (frame first) (call first 0 once) ≡ frame once
-  left : lastFrame (frame first) both ≡ frame once
-  model : modelOf (frame first) both .frame ≡ frame twice
-
-turned-twice : TurnedTwice
-unfolding lowestFrom allBelow sumBelow
-    framed samplesIn bytesIn slotOf quarterTurns indexInSlot index placeNumbered placeAt times table3 rayOf sumOfSquares rotated
-    faceOf chosenSize across down adjusted position64 locate nearestColumn nearestPlace sampleFrom
-    targetShape firstFailed sizeOK depthOK codeOK layoutOK rotationInRange rotationNonzero lengthOK samplesOK lowestBeyond
-    sizeChecks settingChecks lengthChecks beforeSamples convertChecks
-    sourcePosition valueAt convertedSample convertedBytes convertAnswer convertOutcome
-    ledTo toldAll movedFrame afterCall afterCalls leftBy lastFrame
-turned-twice = record {
-  keeps = record { gives = record { returns = refl; holds = refl }; source-stays = refl; source-layout-stays = refl; target-layout-stays = refl };
-  copies = record { returns = refl; holds = refl; source-stays = refl; source-layout-stays = refl; target-layout-stays = refl };
-  reads = refl;
-  left = refl;
-  model = refl;
-}
-
 run-both : Run TurnsFirst (frame first) both
 unfolding TurnsFirst Keeping Each
 run-both = record {
-  made = (turned-twice .keeps, (turned-twice .copies, tt));
-  reads = ((λ t. refl), ((λ t. ap (λ F. F .bytes) (sym (turned-twice .reads))), tt));
-  own = ((λ t. quarter first), ((λ t. subst (λ F. OwnCubeTurn F settings) (sym (turned-twice .reads)) (quarter once)), tt));
+  made = (computed .keeps, (computed .copies, tt));
+  reads = ((λ t. refl), ((λ t. ap (λ F. F .bytes) (sym (computed .between))), tt));
+  own = ((λ t. quarter first), ((λ t. subst (λ F. OwnCubeTurn F settings) (sym (computed .between)) (quarter once)), tt));
 }
 
 no-turns-first : (S : Scorer) → Demand3 TurnsFirst S → ⊥
@@ -164,7 +159,7 @@ unfolding head
 no-turns-first S D = absurd (omega (
   arith,
   ap (λ F. head (F .bytes))
-      (sym (turned-twice .left) ∙ D .kept (frame first) both run-both .frame ∙ turned-twice .model),
+      (sym (computed .left-twice) ∙ D .kept (frame first) both run-both .frame ∙ computed .model-twice),
 ))
 
 -- ---- the invented sum: the frame against itself has no error

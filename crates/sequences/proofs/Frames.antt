@@ -1,14 +1,11 @@
 -- Frames that pass the questions that are their own: the source of an accepted conversion does, and so does the frame that the model moves.
 use mathlib.Core.Path.{_≡_, subst}
 use mathlib.Core.Bool.{Bool, _&&_}
-use mathlib.Core.List.{List}
 use Prim.Native.Nat.{ℕ, _^_, _<_}
 use lib.Dec.{T}
 use lib.ListN.{length}
 use Rattle.arithmetic.proofs.Tests.{and-both, all4}
 use Rattle.cubemap.specs.declared.Place.{Place}
-use Rattle.cubemap.specs.declared.Rotation.{Rotation}
-use Rattle.cubemap.specs.declared.Shape.{Shape}
 use Rattle.cubemap.specs.Frames.{Frame, IsPlace, frameSample}
 use Rattle.cubemap.specs.Rotations.{sumOfSquares}
 use Rattle.cubemap.specs.Checks.{ConvertSettings, sizeOK, depthOK, codeOK, layoutOK, lengthOK, samplesOK}

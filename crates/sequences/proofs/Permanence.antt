@@ -4,11 +4,11 @@ use mathlib.Core.List.{List}
 use Rattle.cubemap.specs.Interface.{returnCode, putAll}
 use Rattle.cubemap.specs.Frames.{Frame}
 use Rattle.cubemap.specs.Outcomes.{Result}
-use Rattle.cubemap.specs.Promises.{Gives, ConvertCall, ScoreCall}
+use Rattle.cubemap.specs.Promises.{ConvertCall, ScoreCall}
 use Rattle.sequences.specs.Steps.{SamePlaces}
 use Rattle.sequences.specs.Model.{modelOf}
 use Rattle.sequences.specs.Runs.{Converter, lastFrame, Run}
-use Rattle.sequences.specs.Demand3.{Scorer, Scores, paperScore, Demand3, Permanence}
+use Rattle.sequences.specs.Demand3.{Scorer, Scores, Demand3, Permanence}
 use Rattle.sequences.proofs.Steps.{step}
 use Rattle.sequences.proofs.Runs.{kept}
 use Rattle.sequences.proofs.Scores.{given, scored}

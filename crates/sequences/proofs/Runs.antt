@@ -3,7 +3,7 @@ use mathlib.Core.Path.{_≡_, refl, sym, _∙_, ap, subst}
 use mathlib.Core.Logic.{_⊎_, inl, inr, ⊎-elim}
 use mathlib.Core.Bool.{Bool, true, false, cond, not}
 use mathlib.Core.List.{List, [], _∷_}
-use Prim.Native.Nat.{ℕ, _≤_, _<_}
+use Prim.Native.Nat.{_≤_, _<_}
 use lib.Dec.{T, T-not}
 use lib.ListN.{length}
 use Rattle.arithmetic.proofs.Tests.{cond-both}
@@ -12,7 +12,7 @@ use Rattle.cubemap.specs.declared.Rotation.{Rotation}
 use Rattle.cubemap.specs.declared.Shape.{Shape}
 use Rattle.cubemap.specs.Interface.{formatOf}
 use Rattle.cubemap.specs.Frames.{Frame, IsPlace, frameSample}
-use Rattle.cubemap.specs.Rotations.{sumOfSquares, identity, compose, composeFrom, CubeRotation}
+use Rattle.cubemap.specs.Rotations.{sumOfSquares, compose, composeFrom, CubeRotation}
 use Rattle.cubemap.specs.Checks.{ConvertSettings, layoutOK}
 use Rattle.cubemap.specs.Promises.{ConvertCall, ConvertPromise}
 use Rattle.cubemap.proofs.FaceCoordinates.{coordinates}
@@ -25,8 +25,8 @@ use Rattle.sequences.specs.Steps.{rayIn, Leads, ledTo}
 use Rattle.sequences.specs.Model.{Told, told, toldAll, accepts, Model, atStart, movedFrame, afterAccepted, afterCall, afterCalls, modelOf}
 use Rattle.sequences.specs.Model.{acceptedRotations}
 use Rattle.sequences.specs.Runs.{leftBy, lastFrame, Each, Keeping, Run}
-use Rattle.sequences.specs.Demand3.{Answered, Moved, frameOK, Stays, Kept}
-use Rattle.sequences.proofs.Steps.{identity-keeps, led-is, leads-led, Matched, cube-matched, led-exactly}
+use Rattle.sequences.specs.Demand3.{Answered, Moved, frameOK, Kept}
+use Rattle.sequences.proofs.Steps.{identity-keeps, led-is, Matched, cube-matched, led-exactly}
 use Rattle.sequences.proofs.Frames.{FrameHolds, frame-ok, source-holds, moved-sample, moved-holds}
 use Rattle.sequences.proofs.Calls.{Fair, each-fair, answers, Refused, Accepted, cases}
 

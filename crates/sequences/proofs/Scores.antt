@@ -8,12 +8,10 @@ use lib.Dec.{T}
 use lib.ListN.{length}
 use Rattle.arithmetic.proofs.Tests.{passes, same-test}
 use Rattle.cubemap.specs.declared.Place.{Place}
-use Rattle.cubemap.specs.declared.Shape.{Shape}
 use Rattle.cubemap.specs.Interface.{formatOf}
-use Rattle.cubemap.specs.Frames.{Frame, IsPlace, sampleAtPlace, frameSample, samplesIn}
-use Rattle.cubemap.specs.Score.{errorSum}
+use Rattle.cubemap.specs.Frames.{Frame, IsPlace, sampleAtPlace}
 use Rattle.cubemap.specs.Checks.{sizeOK, depthOK, codeOK, layoutOK, lengthOK, samplesOK, lowestBeyond}
-use Rattle.cubemap.specs.Outcomes.{written, scoreOutcome, scoreResult}
+use Rattle.cubemap.specs.Outcomes.{written, scoreResult}
 use Rattle.cubemap.specs.Promises.{Gives, ConvertCall, ConvertPromise, ScoreCall, ScorePromise}
 use Rattle.cubemap.proofs.Passed.{size-range}
 use Rattle.cubemap.proofs.Framed.{beyond-none}

@@ -1,9 +1,8 @@
 -- The step of the model: from each place to exactly one, and back by the inverse rotation, so one to one.
-use mathlib.Core.Path.{_≡_, refl, sym, _∙_, ap, subst}
+use mathlib.Core.Path.{_≡_, sym, _∙_, ap, subst}
 use mathlib.Core.Bool.{Bool}
 use Prim.Native.Nat.{ℕ, _≤_, _<_}
 use lib.Dec.{T}
-use lib.IntN.{ℤ}
 use Rattle.arithmetic.specs.Integers.{equalℤ}
 use Rattle.arithmetic.specs.Searches.{lowest}
 use Rattle.arithmetic.proofs.Searches.{lowest-only}

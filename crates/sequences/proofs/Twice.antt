@@ -10,14 +10,14 @@ use Rattle.cubemap.specs.declared.Rotation.{Rotation}
 use Rattle.cubemap.specs.declared.Shape.{Shape}
 use Rattle.cubemap.specs.Frames.{Frame}
 use Rattle.cubemap.specs.Rotations.{composeAll, CubeRotation}
-use Rattle.cubemap.specs.Checks.{ConvertSettings, convertSettings, targetShape}
+use Rattle.cubemap.specs.Checks.{convertSettings, targetShape}
 use Rattle.cubemap.specs.Promises.{ConvertCall, ConvertPromise}
 use Rattle.cubemap.proofs.Answers.{returned-0}
 use Rattle.cubemap.proofs.Passed.{size-range}
 use Rattle.cubemap.proofs.Conversion.{accepted-passed}
 use Rattle.sequences.specs.declared.Codes.{Codes}
-use Rattle.sequences.specs.Model.{told, toldAll, answerTo, accepts, Model, atStart, afterCall, modelOf, acceptedRotations}
-use Rattle.sequences.specs.Runs.{leftBy, lastFrame, Each, OwnCubeTurn, Keeping, Run}
+use Rattle.sequences.specs.Model.{told, toldAll, answerTo, accepts, Model, atStart, afterCall, acceptedRotations}
+use Rattle.sequences.specs.Runs.{leftBy, lastFrame, Each, OwnCubeTurn, Keeping}
 use Rattle.sequences.specs.Demand3.{Answered, Moved, Kept}
 use Rattle.sequences.specs.Twice.{frameOf, turnCall, TurnedTwice}
 use Rattle.sequences.proofs.Calls.{answers-0}

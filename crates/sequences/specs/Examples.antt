@@ -15,7 +15,7 @@ use Rattle.cubemap.specs.Promises.{ConvertCall, convertCall, ConvertPromise}
 use Rattle.cubemap.specs.Marked.{cmp, minus, rotationℕ}
 use Rattle.cubemap.specs.Examples.{otherLayout}
 use Rattle.sequences.specs.Steps.{ledTo}
-use Rattle.sequences.specs.Model.{Told, told, toldAll, Model, answerTo, atStart, afterCalls, acceptedRotations}
+use Rattle.sequences.specs.Model.{told, toldAll, Model, answerTo, atStart, afterCalls, acceptedRotations}
 use Rattle.sequences.specs.Runs.{leftBy, Keeping, Run}
 
 abbrev small : Shape
@@ -98,3 +98,4 @@ pub record Examples : Type 0 where
   pub says-1 : (after : List ℕ)
       → leftBy first (call (turning (rotationℕ 1 0 1 0) otherLayout usualLayout) (first .bytes) 1 after)
       ≡ record { shape = small; layout = usualLayout; bytes = after }
+  pub exists : Exists
