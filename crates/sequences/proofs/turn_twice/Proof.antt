@@ -24,7 +24,8 @@ returns : tie.Need-returns
 returns c =
     let d2 : tie.After-turn2 = c .before .before in
     let d1 : tie.After-turn = d2 .before .before .before .before .before .before in
-    turned-twice _ _ _ _ _ _ _ _ (record { first = d1 .turn .result; later = d2 .turn2 .result }) _ _ _ _ true (ap (λ n. eqb n 0) (d2 .before .before .before .if1 .taken)) (d1 .turn .ensures) (d2 .turn2 .ensures)
+    turned-twice _ _ _ _ _ _ _ _ (record { first = d1 .turn .result; later = d2 .turn2 .result }) _ _ _ _ true
+    (ap (λ n. eqb n 0) (d2 .before .before .before .if1 .taken)) (d1 .turn .ensures) (d2 .turn2 .ensures)
 
 turn-requires-3 : tie.Need-turn-requires-3
 turn-requires-3 c κs = search needs
@@ -39,7 +40,8 @@ returns-2 : tie.Need-returns-2
 returns-2 c =
     let d2 : tie.After-turn3 = c .before .before in
     let d1 : tie.After-turn = d2 .before .before .before .before .before in
-    turned-twice _ _ _ _ _ _ _ _ (record { first = d1 .turn .result; later = d2 .turn3 .result }) _ _ _ _ false (ne-eqb (d1 .turn .result) 0 (d2 .before .before .if1 .left)) (d1 .turn .ensures) (d2 .turn3 .ensures)
+    turned-twice _ _ _ _ _ _ _ _ (record { first = d1 .turn .result; later = d2 .turn3 .result }) _ _ _ _ false
+    (ne-eqb (d1 .turn .result) 0 (d2 .before .before .if1 .left)) (d1 .turn .ensures) (d2 .turn3 .ensures)
 
 pub turn-twice-spec : {M : Type 1} → statement M
 turn-twice-spec =
