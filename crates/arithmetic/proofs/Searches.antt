@@ -1,5 +1,5 @@
 -- What `largest` and `lowest` find, what `allBelow` says, and loops that ask for them.
-use mathlib.Core.Path.{_≡_, refl, sym, _∙_, ap, subst}
+use mathlib.Core.Path.{_≡_, refl, sym, _∙_, ap, ap₂, subst}
 use mathlib.Core.Bool.{Bool, true, false, _&&_, not}
 use mathlib.Core.Logic.{_⊎_, inl, inr, ⊎-elim}
 use Prim.Native.Nat.{ℕ, zero, suc, _+_, _≤_, _<_}
@@ -9,7 +9,7 @@ use native.Mathlib.Numerals.{add-one}
 use native.Mathlib.Omega.{arith}
 use lib.Dec.{T}
 use Rattle.arithmetic.specs.Searches.{largest, lowestFrom, lowest, allBelow}
-use Rattle.arithmetic.proofs.Tests.{and-left, and-right, and-both, passes, fails, same-test}
+use Rattle.arithmetic.proofs.Tests.{and-left, and-right, and-both, passes, fails, true-not-false, same-test}
 
 -- ---- the largest
 
@@ -145,6 +145,28 @@ not-all test n f = lowest-below (λ i. not (test i)) n (decide (decLt r n))
     decide : Dec (r < n) → r < n
     decide (yes l) = l
     decide (no d) = absurd (f (all-of test n (λ j l. each d j l (test j) refl)))
+
+-- ---- tests that agree on the numbers that are asked
+
+pub all-cong : (f g : ℕ → Bool) (n : ℕ) → ((i : ℕ) → i < n → f i ≡ g i) → allBelow f n ≡ allBelow g n
+unfolding allBelow
+all-cong f g zero h = refl
+all-cong f g (suc n) h = ap₂ _&&_ (all-cong f g n (λ i l. h i (omega arith))) (h n (omega arith))
+
+lowestFrom-cong : (f g : ℕ → Bool) (n i : ℕ) → ((j : ℕ) → i ≤ j → j < i + n → f j ≡ g j) → lowestFrom f n i ≡ lowestFrom g n i
+unfolding lowestFrom
+lowestFrom-cong f g zero i h = refl
+lowestFrom-cong f g (suc n) i h = go (f i) (g i) (h i (omega arith) (omega arith)) (lowestFrom-cong f g n (suc i) (λ j l m. h j (omega arith) (omega arith)))
+  where
+    go : (b c : Bool) → b ≡ c → lowestFrom f n (suc i) ≡ lowestFrom g n (suc i)
+        → _≡_ {A = ℕ} (elim b [ true ↦ i | false ↦ lowestFrom f n (suc i) ]) (elim c [ true ↦ i | false ↦ lowestFrom g n (suc i) ])
+    go true true e ih = refl
+    go true false e ih = absurd (true-not-false e)
+    go false true e ih = absurd (true-not-false (sym e))
+    go false false e ih = ih
+
+pub lowest-cong : (f g : ℕ → Bool) (n : ℕ) → ((i : ℕ) → i < n → f i ≡ g i) → lowest f n ≡ lowest g n
+lowest-cong f g n h = lowestFrom-cong f g n 0 (λ j l m. h j (omega arith))
 
 -- one number more
 pub all-next : (test : ℕ → Bool) (n : ℕ) → allBelow test (n + 1) ≡ (allBelow test n && test n)

@@ -4,8 +4,8 @@ use mathlib.Core.Bool.{_&&_, cond}
 use mathlib.Core.List.{List, [], _∷_, _++_}
 use Prim.Native.Nat.{ℕ}
 use lib.Dec.{T}
-use lib.ListN.{length}
-use Rattle.arithmetic.proofs.Tests.{cond-cong, cond-both}
+use lib.ListN.{length, take}
+use Rattle.arithmetic.proofs.Tests.{cond-cong}
 use Rattle.cubemap.specs.declared.Refusal.{Refusal}
 use Rattle.cubemap.specs.Interface.{Answer, accepted, isAccepted}
 use Rattle.cubemap.specs.Frames.{shapeOf}
@@ -14,6 +14,8 @@ use Rattle.cubemap.specs.Checks.{rotationInRange, rotationNonzero, lengt
 use Rattle.cubemap.specs.Checks.{sizeChecks, settingChecks, lengthChecks, beforeSamples, convertChecks}
 use Rattle.cubemap.specs.Outcomes.{outcome, refusal, convertedBytes, convertAnswer, convertOutcome}
 use Rattle.cubemap.proofs.Passed.{AllHold, all-hold, accepted-is, Remaining, firstFailed-append, Between, size-range, ConvertPassed, convert-passed}
+use Rattle.cubemap.proofs.Passed.{passed-source-length}
+use Rattle.cubemap.proofs.Framed.{samples-of-part}
 use Rattle.cubemap.proofs.Answers.{not-accepted}
 
 module _ (s : ConvertSettings) where
@@ -99,16 +101,16 @@ module _ (s : ConvertSettings) (sourceLength targetLength : ℕ) where
   unfolding convertAnswer convertChecks beforeSamples sizeChecks settingChecks lengthChecks
   answer-before source = firstFailed-append (beforeSamples s sourceLength targetLength) (samplesCheck 10 (s .sourceShape) source ∷ []) tt
 
-  -- so two sources that are the same where these let the call through have the same answer
-  pub answer-cong : (x y : List ℕ) → (T (isAccepted answer1to9) → x ≡ y)
-      → convertAnswer s sourceLength targetLength x ≡ convertAnswer s sourceLength targetLength y
-  answer-cong x y h = answer-before x ∙ cond-cong (isAccepted answer1to9) answer1to9 (λ t. ap answer10 (h t)) ∙ sym (answer-before y)
-
-  -- and an accepted call was let through
-  pub accepted-before : (source : List ℕ) → T (isAccepted (convertAnswer s sourceLength targetLength source)) → T (isAccepted answer1to9)
-  accepted-before source t =
-      cond-both (λ a. T (isAccepted a) → T (isAccepted answer1to9)) (isAccepted answer1to9) (answer10 source) answer1to9 (λ h u. h) (λ f u. u)
-      (subst (λ a. T (isAccepted a)) (answer-before source) t)
+  -- so a source that is the first bytes of a frame, where these let the call through, has the answer that the frame's bytes have
+  pub answer-of-part : (source bytes : List ℕ) → (T (isAccepted answer1to9) → source ≡ take sourceLength bytes)
+      → convertAnswer s sourceLength targetLength source ≡ convertAnswer s sourceLength targetLength bytes
+  answer-of-part source bytes h = answer-before source ∙ cond-cong (isAccepted answer1to9) answer1to9 same ∙ sym (answer-before bytes)
+    where
+      same : T (isAccepted answer1to9) → answer10 source ≡ answer10 bytes
+      same t =
+          ap answer10 (h t)
+          ∙ ap (λ c. firstFailed (c ∷ []))
+          (samples-of-part 10 (s .sourceShape) sourceLength bytes (passed-source-length s sourceLength targetLength t))
 
 -- ---- the outcome by the answer
 

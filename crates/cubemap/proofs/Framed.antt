@@ -10,13 +10,13 @@ use lib.Dec.{T, T-not, eqb, eqb→eq, eqb-refl, ltb→lt, lt→ltb}
 use lib.ListN.{length, length-append, take, drop, getD, List·getD-append}
 use lib.Seq.{getD-take, getD-drop}
 use Rattle.arithmetic.specs.Searches.{lowest, allBelow}
-use Rattle.arithmetic.proofs.Searches.{all-at, all-of, Lowest, not-all, lowest-none}
+use Rattle.arithmetic.proofs.Searches.{all-at, all-of, all-cong, Lowest, not-all, lowest-none, lowest-cong}
 use Rattle.arithmetic.proofs.Tests.{same-test}
 use Rattle.cubemap.specs.declared.Place.{Place}
 use Rattle.cubemap.specs.declared.Shape.{Shape}
 use Rattle.cubemap.specs.Interface.{littleEndian}
-use Rattle.cubemap.specs.Frames.{IsPlace, sampleAt, framed, planeSamples, samplesIn, bytesIn, index, placeAt, sampleAtPlace}
-use Rattle.cubemap.specs.Checks.{depthOK, lengthOK, sampleOK, samplesOK, lowestBeyond}
+use Rattle.cubemap.specs.Frames.{IsPlace, sampleAt, withinDepth, framed, planeSamples, samplesIn, bytesIn, index, placeAt, sampleAtPlace}
+use Rattle.cubemap.specs.Checks.{depthOK, lengthOK, sampleOK, samplesOK, lowestBeyond, samplesCheck}
 use Rattle.cubemap.proofs.Passed.{depth-range}
 use Rattle.cubemap.proofs.Layouts.{LayoutHolds}
 use Rattle.cubemap.proofs.Indices.{index-ok, placeAt-index, placeAt-ok}
@@ -149,6 +149,20 @@ beyond-none z bytes t = lowest-none (record { bounded = omega arith; each = none
   where
     none : (i : ℕ) → i < samplesIn z → not (sampleOK z bytes i) ≡ false
     none i h = same-test (not (sampleOK z bytes i)) false (λ n. T-not (sampleOK z bytes i) n (all-at (sampleOK z bytes) (samplesIn z) t i h)) (λ f. absurd f)
+
+-- of more bytes than a frame has, the first ones decide
+pub samples-of-part : (k : ℕ) (z : Shape) (n : ℕ) (bytes : List ℕ) → T (lengthOK z n) → samplesCheck k z (take n bytes) ≡ samplesCheck k z bytes
+unfolding samplesOK lowestBeyond
+samples-of-part k z n bytes t = λ i. record {
+  holds = all-cong (sampleOK z (take n bytes)) (sampleOK z bytes) (samplesIn z) same i;
+  number = k;
+  index = lowest-cong (λ j. not (sampleOK z (take n bytes) j)) (λ j. not (sampleOK z bytes j)) (samplesIn z) (λ j l. ap not (same j l)) i;
+}
+  where
+    same : (j : ℕ) → j < samplesIn z → sampleOK z (take n bytes) j ≡ sampleOK z bytes j
+    same j l =
+        let long : n ≡ 2 * samplesIn z = length-is z n t ∙ bytes-number z in
+        ap₂ (λ a b. withinDepth (z .depth) (a + 256 * b)) (getD-take n bytes (2 * j) 0 (omega arith)) (getD-take n bytes (2 * j + 1) 0 (omega arith))
 
 -- at a place of a frame with a layout that passes check 5
 pub place-below : (z : Shape) (L bytes : List ℕ) (P : Place) → LayoutHolds L → T (samplesOK z bytes) → IsPlace (z .size) P

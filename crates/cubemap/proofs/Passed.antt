@@ -216,6 +216,14 @@ convert-passed s n m source t = go (all-hold (convertChecks s n m source) tt t)
         codes : All3 (codeOK (s .sourceShape .format)) (codeOK (s .targetFormat)) (codeOK (s .sampler))
         codes = and3 (codeOK (s .sourceShape .format)) (codeOK (s .targetFormat)) (codeOK (s .sampler)) q4
 
+-- checks 1 to 9 alone: the source has its frame's bytes
+pub passed-source-length : (s : ConvertSettings) (n m : ℕ) → T (isAccepted (firstFailed (beforeSamples s n m))) → T (lengthOK (s .sourceShape) n)
+unfolding beforeSamples sizeChecks settingChecks lengthChecks
+passed-source-length s n m t = go (all-hold (beforeSamples s n m) tt t)
+  where
+    go : AllHold (beforeSamples s n m) → T (lengthOK (s .sourceShape) n)
+    go (q1, (q2, (q3, (q4, (q5, (q6, (q7, (q8, behind)))))))) = q8
+
 -- ---- score
 
 pub record ScorePassed (s : ScoreSettings) (first second : List ℕ) : Type 0 where

@@ -17,7 +17,7 @@ use Rattle.cubemap.specs.Outcomes.{convertedSample, convertedBytes}
 use Rattle.cubemap.specs.Promises.{ConvertCall, ConvertPromise}
 use Rattle.cubemap.proofs.Answers.{returned-0}
 use Rattle.cubemap.proofs.Passed.{size-range, ConvertPassed}
-use Rattle.cubemap.proofs.ConvertChecks.{answer-accepted, answer-cong, accepted-before, outcome-is}
+use Rattle.cubemap.proofs.ConvertChecks.{answer-accepted, answer-of-part, outcome-is}
 use Rattle.cubemap.proofs.Layouts.{layout-holds}
 use Rattle.cubemap.proofs.Framed.{planeOf, planeOf-cong}
 use Rattle.cubemap.proofs.Rotations.{LeadsTo, sum-positive}
@@ -60,7 +60,7 @@ answers-0 c p = same-test (accepts (told c) (c .source)) (eqb (c .returned) 0)
 -- ---- the model's answer is the call's, though the model has its own frame's bytes and not those that were lent
 
 same-answer : (F : Frame) (c : ConvertCall) → Reads F c → answerTo (told c) (c .source) ≡ answerTo (told c) (F .bytes)
-same-answer F c r = answer-cong (c .settings) (length (c .source)) (length (c .target)) (c .source) (F .bytes) r
+same-answer F c r = answer-of-part (c .settings) (length (c .source)) (length (c .target)) (c .source) (F .bytes) (r .part)
 
 pub answers : (F : Frame) (c : ConvertCall) → Fair F c → Answers (F .bytes) c
 answers F c f = record {
@@ -86,7 +86,7 @@ module _ (F : Frame) (c : ConvertCall) (f : Fair F c) (ok : T (accepts (told c) 
   o = f .own ok
 
   read : c .source ≡ F .bytes
-  read = f .reads (accepted-before s (length (c .source)) (length (c .target)) (c .source) ok)
+  read = f .reads .whole ok
 
   passed : ConvertPassed (c .settings) (length (F .bytes)) (length (c .target)) (F .bytes)
   passed = subst (λ b. ConvertPassed (c .settings) (length b) (length (c .target)) b) read

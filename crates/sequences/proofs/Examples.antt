@@ -19,7 +19,8 @@ use Rattle.cubemap.specs.Promises.{ConvertPromise}
 use Rattle.sequences.specs.Steps.{ledTo}
 use Rattle.sequences.specs.Model.{toldAll, movedFrame, afterCall, afterCalls, acceptedRotations}
 use Rattle.sequences.specs.Runs.{leftBy, Each, Keeping}
-use Rattle.sequences.specs.Examples.{made, Exists, Examples}
+use Rattle.sequences.specs.Examples.{made, calls, Exists, Examples}
+use Rattle.sequences.proofs.Histories.{all-among, reads-whole}
 
 -- what the definition makes keeps the promise
 keeps : (s : ConvertSettings) (source : List ℕ) → ConvertPromise (made s source)
@@ -48,12 +49,15 @@ examples = record {
   moved = refl;
   led = refl;
   layout = refl;
-  says-0 = refl;
+  says-0 = λ after. refl;
   says-1 = λ after. refl;
+  beyond = refl;
   exists = record {
     run = record {
+      history = calls;
       made = (keeps _ _, (keeps _ _, (keeps _ _, tt)));
-      reads = ((λ t. refl), ((λ t. absurd t), ((λ t. refl), tt)));
+      among = all-among calls;
+      reads = (reads-whole _ _ refl, (record { whole = λ t. absurd t; part = λ t. absurd t }, (reads-whole _ _ refl, tt)));
       own = (
         (λ t. record { own-shape = refl; own-layout = refl; same-shape = refl; cube = tt }),
         ((λ t. absurd t), ((λ t. record { own-shape = refl; own-layout = refl; same-shape = refl; cube = tt }), tt)),

@@ -27,6 +27,7 @@ use Rattle.sequences.specs.Steps.{ledTo}
 use Rattle.sequences.specs.Model.{told, toldAll, answerTo, accepts, movedFrame, afterCall, afterCalls, modelOf}
 use Rattle.sequences.specs.Runs.{leftBy, lastFrame, Each, OwnCubeTurn, Converter, Keeping, Run}
 use Rattle.sequences.specs.Demand3.{Answered, Scorer, scoring, paperScore, Demand3}
+use Rattle.sequences.proofs.Histories.{all-among, reads-whole}
 use Rattle.sequences.specs.Excluded.{Leaves, Writes, Copies, TurnsFirst, Grey, WritesNothing, Answers1, Invents, Excluded}
 
 -- ---- a frame of six samples, turned once and twice by a quarter, (1,0,1,0)
@@ -102,7 +103,13 @@ quarter bytes = record { own-shape = refl; own-layout = refl; same-shape = refl;
 module _ (M : Converter) (S : Scorer) (D : Demand3 M S) (returned : ℕ) (after : List ℕ) (made : M (call first returned after ∷ [])) where
   run : Run M (frame first) (call first returned after ∷ [])
   unfolding Each
-  run = record { made = made; reads = ((λ t. refl), tt); own = ((λ t. quarter first), tt) }
+  run = record {
+    history = call first returned after ∷ [];
+    made = made;
+    among = all-among (call first returned after ∷ []);
+    reads = (reads-whole (frame first) (call first returned after) refl, tt);
+    own = ((λ t. quarter first), tt);
+  }
 
   must-return : returned ≡ 0
   unfolding Answered
@@ -149,8 +156,10 @@ not-always-1 S D = absurd (omega (arith, must-return (Keeping Answers1) S D 1 ro
 run-both : Run TurnsFirst (frame first) both
 unfolding TurnsFirst Keeping Each
 run-both = record {
+  history = both;
   made = (computed .keeps, (computed .copies, tt));
-  reads = ((λ t. refl), ((λ t. ap (λ F. F .bytes) (sym (computed .between))), tt));
+  among = all-among both;
+  reads = (reads-whole (frame first) (call first 0 once) refl, (reads-whole _ (call once 0 once) (ap (λ F. F .bytes) (sym (computed .between))), tt));
   own = ((λ t. quarter first), ((λ t. subst (λ F. OwnCubeTurn F settings) (sym (computed .between)) (quarter once)), tt));
 }
 

@@ -1,5 +1,6 @@
 pub mod Examples
 pub mod Steps
+pub mod Histories
 pub mod Frames
 pub mod Calls
 pub mod Runs

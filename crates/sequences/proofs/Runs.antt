@@ -26,6 +26,7 @@ use Rattle.sequences.specs.Model.{Told, told, toldAll, accepts, Model, a
 use Rattle.sequences.specs.Model.{acceptedRotations}
 use Rattle.sequences.specs.Runs.{leftBy, lastFrame, Each, Keeping, Run}
 use Rattle.sequences.specs.Demand3.{Answered, Moved, frameOK, Kept}
+use Rattle.sequences.proofs.Histories.{among-keeping}
 use Rattle.sequences.proofs.Steps.{identity-keeps, led-is, Matched, cube-matched, led-exactly}
 use Rattle.sequences.proofs.Frames.{FrameHolds, frame-ok, source-holds, moved-sample, moved-holds}
 use Rattle.sequences.proofs.Calls.{Fair, each-fair, answers, Refused, Accepted, cases}
@@ -218,7 +219,7 @@ follows-moved first b a v = record {
 
 module _ (first : Frame) (cs : List ConvertCall) (r : Run (Keeping ConvertPromise) first cs) where
   fair : Each Fair first cs
-  fair = each-fair first cs (r .made) (r .reads) (r .own)
+  fair = each-fair first cs (among-keeping ConvertPromise cs (r .history) (r .among) (r .made)) (r .reads) (r .own)
 
   run-synced : Synced (atStart first) cs
   run-synced = synced (atStart first) cs fair

@@ -3,7 +3,7 @@ use mathlib.Core.Path.{_≡_, refl, sym, _∙_, ap, subst}
 use mathlib.Core.Bool.{Bool, true, false, cond}
 use mathlib.Core.List.{List, [], _∷_}
 use Prim.Native.Nat.{ℕ, _≤_}
-use lib.Dec.{T, eqb}
+use lib.Dec.{T, eqb, eqb→eq}
 use lib.ListN.{length}
 use Rattle.arithmetic.proofs.Tests.{cond-true}
 use Rattle.cubemap.specs.declared.Rotation.{Rotation}
@@ -20,6 +20,7 @@ use Rattle.sequences.specs.Model.{told, toldAll, answerTo, accepts, Mode
 use Rattle.sequences.specs.Runs.{leftBy, lastFrame, Each, OwnCubeTurn, Keeping}
 use Rattle.sequences.specs.Demand3.{Answered, Moved, Kept}
 use Rattle.sequences.specs.Twice.{frameOf, turnCall, TurnedTwice}
+use Rattle.sequences.proofs.Histories.{all-among, reads-whole}
 use Rattle.sequences.proofs.Calls.{answers-0}
 use Rattle.sequences.proofs.Permanence.{permanence}
 
@@ -60,17 +61,32 @@ module _ (z : Shape) (sampler : ℕ) (L : List ℕ) (t u : Rotation) (source mid
     unfolding Keeping
     made = (p, (q, tt))
 
-    kept : CubeRotation t → CubeRotation u → Kept F calls
+    -- an accepted call answered 0
+    says-0 : (code : ℕ) {b : Bool} → b ≡ eqb code 0 → T b → code ≡ 0
+    says-0 code e h = eqb→eq code 0 (subst T e h)
+
+    kept : (r .first ≡ 0 → CubeRotation t) → (r .later ≡ 0 → CubeRotation u) → Kept F calls
     unfolding Each
     kept c d = permanence .kept F calls (record {
+      history = calls;
       made = made;
-      reads = ((λ b. refl), ((λ b. ap (λ G. G .bytes) (sym left)), tt));
-      own = ((λ b. own-turn z sampler L t source c), ((λ b. subst (λ G. OwnCubeTurn G (call2 .settings)) (sym left) (own-turn z sampler L u read d)), tt));
+      among = all-among calls;
+      reads = (reads-whole F call1 refl, (reads-whole (leftBy F call1) call2 (ap (λ G. G .bytes) (sym left)), tt));
+      own = (
+        (λ a. own-turn z sampler L t source (c (says-0 (r .first) (answers-0 call1 p) a))),
+        (
+          (λ a. subst (λ G. OwnCubeTurn G (call2 .settings)) (sym left) (own-turn z sampler L u read (d (says-0 (r .later) (answers-0 call2 q) a)))),
+          tt,
+        ),
+      );
     })
 
     -- ---- where both answer 0
 
     module _ (c : CubeRotation t) (d : CubeRotation u) (e : r .first ≡ 0) (f : r .later ≡ 0) where
+      whole : Kept F calls
+      whole = kept (λ a. c) (λ a. d)
+
       accepts1 : T (accepts (told call1) source)
       accepts1 = subst T (sym (answers-0 call1 p)) (subst (λ n. T (eqb n 0)) (sym e) tt)
 
@@ -86,7 +102,7 @@ module _ (z : Shape) (sampler : ℕ) (L : List ℕ) (t u : Rotation) (source mid
       turns =
           cond-true (accepts (told call1) source) _ _ accepts1
           ∙ ap (λ us. t ∷ us) (cond-true (accepts (told call2) (after .frame .bytes)) (u ∷ []) []
-          (returned-0 (answerTo (told call2) (after .frame .bytes)) (sym (kept c d .answered .1 .0 .returns) ∙ f)))
+          (returned-0 (answerTo (told call2) (after .frame .bytes)) (sym (whole .answered .1 .0 .returns) ∙ f)))
         where
           after : Model
           after = afterCall (atStart (frameOf z L source)) (told call1)
@@ -96,7 +112,7 @@ module _ (z : Shape) (sampler : ℕ) (L : List ℕ) (t u : Rotation) (source mid
 
       moved : Moved F (frameOf z L targetAfter) (composeAll (t ∷ u ∷ []))
       moved = subst (λ G. Moved F G (composeAll (t ∷ u ∷ []))) last
-          (subst (λ x. Moved F (lastFrame F calls) x) (kept c d .fold ∙ ap composeAll turns) (kept c d .moved size))
+          (subst (λ x. Moved F (lastFrame F calls) x) (whole .fold ∙ ap composeAll turns) (whole .moved size))
 
   -- by what the first call answered
   pub turned-twice : (b : Bool) → eqb (r .first) 0 ≡ b → ConvertPromise call1

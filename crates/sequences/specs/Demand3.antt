@@ -37,7 +37,8 @@ Answered b (c ∷ cs) = Answers (b .frame .bytes) c × Answered (afterCall b (to
 
 -- ---- one list: where the samples stand
 
--- "each first sample stands unchanged exactly once, at the place that the fold .. gives": by the step of the turn t from the first frame to the last
+-- "each first sample stands unchanged exactly once, at the place that the fold .. gives": the step of the turn t leads from each place of the last frame
+-- to one of the first
 pub record Moved (first last : Frame) (t : Rotation) : Type 0 where
   -- "found by that same step with the fold as t": from each place to exactly one
   pub step : (P : Place) → IsPlace (first .shape .size) P → ExactlyOne (first .shape) t P
@@ -101,7 +102,7 @@ pub record Scores (F G : Frame) (c : ScoreCall) : Type 0 where
 -- ---- the claim, of a converter and a scorer
 
 pub record Demand3 (M : Converter) (S : Scorer) : Type 0 where
-  -- "exactly one place has that ray": the model's step is one, from each place, by each whole-cube turn that is not all zero
+  -- "exactly one place has that ray": the model's step leads from each place to exactly one, by each whole-cube turn that is not all zero
   pub step : (z : Shape) (t : Rotation) (P : Place) → z .size ≤ 512 → T (rotationNonzero t) → CubeRotation t → IsPlace (z .size) P
       → ExactlyOne z t P
   -- "for every first frame and every list of conversions"
@@ -115,6 +116,6 @@ pub record Demand3 (M : Converter) (S : Scorer) : Type 0 where
       → SamePlaces (F .shape) (modelOf F cs .fold) (modelOf G ds .fold)
       → paperScore (lastFrame F cs) (lastFrame G ds) ≡ paperScore F G
 
--- demand 3 of the product: of every converter and scorer whose calls keep the promises of the exported calls
+-- demand 3 of the product: of calls that keep the promises of convert and score
 abbrev pub Permanence : Type 0
 Permanence = Demand3 (Keeping ConvertPromise) ScorePromise

@@ -1,7 +1,9 @@
 -- The step of P12; and a list of three calls on a small frame, accepted, refused and accepted: what the model makes of it.
 use mathlib.Core.Path.{_≡_}
+use mathlib.Core.Bool.{cond}
 use mathlib.Core.List.{List, [], _∷_}
 use Prim.Native.Nat.{ℕ, _+_}
+use lib.Dec.{eqb}
 use lib.ListN.{replicate}
 use lib.IntN.{pos}
 use Rattle.cubemap.specs.declared.Rotation.{Rotation}
@@ -15,7 +17,7 @@ use Rattle.cubemap.specs.Promises.{ConvertCall, convertCall, ConvertPromise}
 use Rattle.cubemap.specs.Marked.{cmp, minus, rotationℕ}
 use Rattle.cubemap.specs.Examples.{otherLayout}
 use Rattle.sequences.specs.Steps.{ledTo}
-use Rattle.sequences.specs.Model.{told, toldAll, Model, answerTo, atStart, afterCalls, acceptedRotations}
+use Rattle.sequences.specs.Model.{told, toldAll, Model, answerTo, atStart, afterCall, afterCalls, acceptedRotations}
 use Rattle.sequences.specs.Runs.{leftBy, Keeping, Run}
 
 abbrev small : Shape
@@ -24,6 +26,10 @@ small = shapeOf 1 8 cmp
 -- face f has the sample 10 + f
 abbrev first : Frame
 first = record { shape = small; layout = otherLayout; bytes = framed (λ f. 10 + f) 6 }
+
+-- the same with 300 at face 5, where 8 bits reach to 255
+abbrev tooBright : Frame
+tooBright = record { shape = small; layout = otherLayout; bytes = framed (λ f. cond (eqb f 5) 300 (10 + f)) 6 }
 
 -- by the turn t, from the layout L to the layout M, with the cubic sampler
 abbrev turning : Rotation → List ℕ → List ℕ → ConvertSettings
@@ -43,18 +49,18 @@ made s source =
     let o = convertOutcome s source room in
     call s source (returnCode (o .answered)) (o .bytes)
 
--- the second call's source is a byte short
+-- the second call names another depth and another layout than the frame's, and its source is a byte short
 abbrev short : List ℕ
 short = replicate 11 0
 
-abbrev wrong : ConvertSettings
-wrong = turning (rotationℕ 1 0 0 1) usualLayout otherLayout
+abbrev ofAnother : ConvertSettings
+ofAnother = convertSettings (shapeOf 1 12 cmp) 1 cmp 1 (5 ∷ 4 ∷ 3 ∷ 2 ∷ 1 ∷ 0 ∷ 0 ∷ 0 ∷ 0 ∷ 0 ∷ 0 ∷ 0 ∷ []) usualLayout (rotationℕ 1 0 0 1)
 
 abbrev call1 : ConvertCall
 call1 = made (turning (rotationℕ 1 0 1 0) otherLayout usualLayout) (first .bytes)
 
 abbrev call2 : ConvertCall
-call2 = made wrong short
+call2 = made ofAnother short
 
 abbrev call3 : ConvertCall
 call3 = made (turning (rotationℕ 1 1 0 0) usualLayout usualLayout) (call1 .targetAfter)
@@ -79,7 +85,7 @@ pub record Exists : Type 0 where
 pub record Examples : Type 0 where
   -- the step leads where P12 has the converter read
   pub step : ledTo (shapeOf 3 8 cmp) (rotationℕ 1 0 1 0) (place 0 0 1) ≡ place 5 0 1
-  -- the second call's source is a byte short: number 8, and its turn is not among the accepted ones
+  -- the second call answers 8, and its turn is not among the accepted ones
   pub refused : (bytes : List ℕ) → answerTo (told call2) bytes ≡ answer 8 0
   pub turns : acceptedRotations (atStart first) (toldAll calls) ≡ rotationℕ 1 0 1 0 ∷ rotationℕ 1 1 0 0 ∷ []
   -- the old fold first: P10
@@ -94,8 +100,10 @@ pub record Examples : Type 0 where
   -- "in the target's layout"
   pub layout : last .frame .layout ≡ usualLayout
   -- what a call answers decides nothing: a refused one that says 0 and writes leaves the frame, an accepted one that says 1 leaves what it wrote
-  pub says-0 : leftBy first (call wrong short 0 room) ≡ first
+  pub says-0 : (after : List ℕ) → leftBy first (call ofAnother short 0 after) ≡ first
   pub says-1 : (after : List ℕ)
       → leftBy first (call (turning (rotationℕ 1 0 1 0) otherLayout usualLayout) (first .bytes) 1 after)
       ≡ record { shape = small; layout = usualLayout; bytes = after }
+  -- a first frame with a sample beyond its depth: the model refuses what it would accept of the other one
+  pub beyond : afterCall (atStart tooBright) (told call1) ≡ atStart tooBright
   pub exists : Exists

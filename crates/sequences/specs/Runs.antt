@@ -1,8 +1,10 @@
 -- Lists of conversions: the frame that each call leaves to the next, and what the maker owes.
 use mathlib.Core.Path.{_≡_}
+use mathlib.Core.Logic.{_⊎_}
 use mathlib.Core.Bool.{Bool, cond}
 use mathlib.Core.List.{List, [], _∷_}
 use lib.Dec.{T}
+use lib.ListN.{length, take}
 use Rattle.cubemap.specs.Interface.{isAccepted}
 use Rattle.cubemap.specs.Frames.{Frame}
 use Rattle.cubemap.specs.Rotations.{CubeRotation}
@@ -35,10 +37,13 @@ Each H F (c ∷ cs) = H F c × Each H (leftBy F c) cs
 abbrev pub passesBeforeSamples : Told → Bool
 passesBeforeSamples c = isAccepted (firstFailed (beforeSamples (c .settings) (c .sourceLength) (c .targetLength)))
 
--- "each reads the frame that the last accepted one wrote, or the first where none was, nobody else writes it meanwhile": the source holds that frame's
--- bytes. (A call that checks 1 to 9 refuse reads no sample, and may lend any source.)
-abbrev pub Reads : Frame → ConvertCall → Type 0
-Reads F c = T (passesBeforeSamples (told c)) → c .source ≡ F .bytes
+-- "each reads the frame that the last accepted one wrote, or the first where none was, nobody else writes it meanwhile"
+pub record Reads (F : Frame) (c : ConvertCall) : Type 0 where
+  -- the source of an accepted call holds that frame's bytes
+  pub whole : T (accepts (told c) (c .source)) → c .source ≡ F .bytes
+  -- so does the source of one that check 10 refuses, as far as it goes: the call may name another size, and be lent a part. (A call that checks 1 to 9
+  -- refuse reads no sample, and may be lent anything.)
+  pub part : T (passesBeforeSamples (told c)) → c .source ≡ take (length (c .source)) (F .bytes)
 
 -- "An accepted conversion names for its source that frame's own size, depth, format and layout"; it goes "by whole-cube turns to the first frame's own
 -- size, depth and format", which the frame left to it has too, "with either sampler and any layouts"
@@ -52,11 +57,17 @@ pub record OwnCubeTurn (F : Frame) (s : ConvertSettings) : Type 0 where
 abbrev pub AcceptedAreOwn : Frame → ConvertCall → Type 0
 AcceptedAreOwn F c = T (accepts (told c) (c .source)) → OwnCubeTurn F (c .settings)
 
--- ---- a run: the calls that a converter makes on such a list
+-- ---- a run: calls of a converter, for which the maker gives what is owed
 
--- a converter, by the lists of calls that it may make
+-- a converter, by its histories: the lists of all calls that it may make, whoever asks for them
 abbrev pub Converter : Type 1
 Converter = List ConvertCall → Type 0
+
+-- cs are some of the calls of a history, in its order: others, on other frames, may stand between them
+unfoldable pub Among : List ConvertCall → List ConvertCall → Type 0
+Among [] history = Unit {0}
+Among (c ∷ cs) [] = ⊥
+Among (c ∷ cs) (h ∷ history) = ((c ≡ h) × Among cs history) ⊎ Among (c ∷ cs) history
 
 -- the converter each of whose calls keeps a promise, whatever came before it
 unfoldable pub Keeping : (ConvertCall → Type 0) → Converter
@@ -64,6 +75,8 @@ Keeping promise [] = Unit {0}
 Keeping promise (c ∷ cs) = promise c × Keeping promise cs
 
 pub record Run (M : Converter) (first : Frame) (cs : List ConvertCall) : Type 0 where
-  pub made : M cs
+  pub history : List ConvertCall
+  pub made : M history
+  pub among : Among cs history
   pub reads : Each Reads first cs
   pub own : Each AcceptedAreOwn first cs

@@ -22,15 +22,15 @@ pub record Leads (z : Shape) (t : Rotation) (P Q : Place) : Type 0 where
   pub is-place : IsPlace (z .size) Q
   pub same-ray : rotated t (rayIn z P) ≡ times (sumOfSquares t) (rayIn z Q)
 
--- the same as a test
 abbrev pub sameRay : Ray → Ray → Bool
 sameRay u v = equalℤ (u .x) (v .x) && equalℤ (u .y) (v .y) && equalℤ (u .z) (v .z)
 
+-- the equation of `Leads` as a test
 abbrev pub leads : Shape → Rotation → Place → Place → Bool
 leads z t P Q = sameRay (rotated t (rayIn z P)) (times (sumOfSquares t) (rayIn z Q))
 
--- the place that the step by t leads to from P: "the place with ray R·r/S". (Exactly one has it where the size is at most 512 and t is a whole-cube turn
--- that is not all zero.)
+-- the place that the step by t leads to from P: "the place with ray R·r/S". (Exactly one has it where P is a place, the size is at most 512 and t is a
+-- whole-cube turn that is not all zero.)
 unfoldable pub ledTo : Shape → Rotation → Place → Place
 ledTo z t P = placeNumbered (z .size) (lowest (λ k. leads z t P (placeNumbered (z .size) k)) (planeSamples (z .size)))
 

@@ -1,4 +1,4 @@
--- What a function that turns a frame twice promises: demand 3's conclusion, of the list of the two calls that it makes.
+-- What a function that turns a frame twice promises: what demand 3 says of the list of the two calls that it makes.
 use mathlib.Core.Path.{_≡_}
 use mathlib.Core.Bool.{cond}
 use mathlib.Core.List.{List, [], _∷_}
@@ -37,9 +37,9 @@ module _ (z : Shape) (sampler : ℕ) (L : List ℕ) (first later : Rotation) (so
   pub record TurnedTwice : Type 0 where
     -- whatever the turns are, both calls keep convert's promise
     pub made : Keeping ConvertPromise twoCalls
-    -- where they are whole-cube turns, the whole conclusion
-    pub kept : CubeRotation first → CubeRotation later → Kept (frameOf z L source) twoCalls
-    -- so where both calls answer 0, each sample of the source stands unchanged exactly once in the target, at the place that the fold of the two
-    -- turns gives
+    -- where the accepted ones are by whole-cube turns, the whole conclusion
+    pub kept : (r .first ≡ 0 → CubeRotation first) → (r .later ≡ 0 → CubeRotation later) → Kept (frameOf z L source) twoCalls
+    -- so where both are accepted, each sample of the source stands unchanged exactly once in the target, at the place that the fold of the two turns
+    -- gives
     pub moved : CubeRotation first → CubeRotation later → r .first ≡ 0 → r .later ≡ 0
         → Moved (frameOf z L source) (frameOf z L targetAfter) (composeAll (first ∷ later ∷ []))
