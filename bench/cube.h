@@ -19,6 +19,23 @@ static inline int clip(int number, int largest)
     return number < 0 ? 0 : number > largest ? largest : number;
 }
 
+/* A column and a row of a face. */
+struct spot {
+    int m, n;
+};
+
+/* The spot of a face that lies at a column and a row of its slot, where the face has so many clockwise quarter turns there. */
+static inline struct spot turned_back(int quarter_turns, int size, int column, int row)
+{
+    const int last = size - 1;
+    switch (quarter_turns) {
+    case 1: return (struct spot){row, last - column};
+    case 2: return (struct spot){last - column, last - row};
+    case 3: return (struct spot){last - row, column};
+    default: return (struct spot){column, row};
+    }
+}
+
 /* The turn's matrix, divided by the sum of the four squares. */
 static inline void set_matrix(const int turn[4], double matrix[3][3])
 {

@@ -106,17 +106,10 @@ static int value_on_face(const struct setting *setting, int face, int m, int n)
 /* The target's value at a column and a row of the frame, which undoes the quarter turns of the slot there. */
 static int value_in_frame(const struct setting *setting, int frame_column, int frame_row)
 {
-    const int size = setting->conversion->size, last = size - 1;
+    const int size = setting->conversion->size;
     const int slot = frame_row / size * 3 + frame_column / size;
-    const int column = frame_column % size, row = frame_row % size;
-    int m = column, n = row;
-    switch (setting->conversion->layout[6 + slot]) {
-    case 1: m = row, n = last - column; break;
-    case 2: m = last - column, n = last - row; break;
-    case 3: m = last - row, n = column; break;
-    default: break;
-    }
-    return value_on_face(setting, setting->conversion->layout[slot], m, n);
+    const struct spot spot = turned_back(setting->conversion->layout[6 + slot], size, frame_column % size, frame_row % size);
+    return value_on_face(setting, setting->conversion->layout[slot], spot.m, spot.n);
 }
 
 void convert_straightforward(const struct conversion *conversion, const uint8_t *source, uint8_t *target)

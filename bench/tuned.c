@@ -138,15 +138,8 @@ static int value_at(const struct setting *setting, int face, int m, int n)
 /* The value of the target at a column and a row of a slot, which undoes the slot's quarter turns. */
 static int value_in_slot(const struct setting *setting, int slot, int column, int row)
 {
-    const int last = setting->conversion->size - 1;
-    int m = column, n = row;
-    switch (setting->conversion->layout[6 + slot]) {
-    case 1: m = row, n = last - column; break;
-    case 2: m = last - column, n = last - row; break;
-    case 3: m = last - row, n = column; break;
-    default: break;
-    }
-    return value_at(setting, setting->conversion->layout[slot], m, n);
+    const struct spot spot = turned_back(setting->conversion->layout[6 + slot], setting->conversion->size, column, row);
+    return value_at(setting, setting->conversion->layout[slot], spot.m, spot.n);
 }
 
 /* The rows of a slot lie unbroken in the frame, whatever its turn. */

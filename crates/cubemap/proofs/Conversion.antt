@@ -1,5 +1,5 @@
 -- A conversion at one place: where it reads, that look-up answers with the very same position, that its value is within the depth, that a nonzero
--- multiple of a rotation reads the same, and that a cube rotation to a frame of the same shape gives the source's own sample.
+-- multiple of a rotation reads the same, that a cube rotation leads from each place to one, and that a frame of the same shape then gets the sample there.
 use mathlib.Core.Path.{_≡_, refl, sym, _∙_, ap}
 use mathlib.Core.List.{List}
 use Prim.Native.Nat.{ℕ, _*_, _^_, _≤_, _<_}
@@ -15,7 +15,7 @@ use Rattle.cubemap.specs.declared.Shape.{Shape}
 use Rattle.cubemap.specs.Interface.{formatOf, samplerOf, accepted, isAccepted}
 use Rattle.cubemap.specs.Frames.{IsPlace, planeSamples, sampleAtPlace}
 use Rattle.cubemap.specs.PlaceToRay.{times, rayOf}
-use Rattle.cubemap.specs.Rotations.{sumOfSquares, rotated, CubeRotation}
+use Rattle.cubemap.specs.Rotations.{sumOfSquares, rotated}
 use Rattle.cubemap.specs.RayToPlace.{locate}
 use Rattle.cubemap.specs.Samplers.{sampleFrom}
 use Rattle.cubemap.specs.Checks.{ConvertSettings, targetShape, lengthOK, samplesOK}
@@ -30,7 +30,7 @@ use Rattle.cubemap.proofs.Samplers.{value-within, value-own}
 use Rattle.cubemap.proofs.Rotations.{sum-positive, multiple, rotated-multiple, LeadsTo, leads-only}
 use Rattle.cubemap.proofs.RotatedRays.{RotatedRay, rotated-ray, place-ray}
 use Rattle.cubemap.proofs.CubeRays.{PlaceOf, ray-apart, ray-cube, cube-place}
-use Rattle.cubemap.proofs.CubeRotations.{permuted, cube-permuted, CubeMatrix, cube-matrix, Permutes, matrix-permutes}
+use Rattle.cubemap.proofs.CubeRotations.{permuted, cube-permuted, CubeMatrix, Permutes, matrix-permutes}
 
 -- ---- a nonzero multiple of a rotation leads to the same positions
 
@@ -127,6 +127,7 @@ pub record Step (z : Shape) (t : Rotation) (P : Place) : Type 0 where
   pub ok : IsPlace (z .size) to
   pub leads : LeadsTo t (rayIn z P) (rayIn z to)
 
+-- a cube rotation leads from each place to one
 pub matrix-step : (z : Shape) (t : Rotation) (P : Place) → z .size ≤ 512 → 0 < sumOfSquares t → CubeMatrix t → IsPlace (z .size) P → Step z t P
 matrix-step z t P a h w p = record { to = q .place; ok = q .ok; leads = m .leads (rayIn z P) ∙ ap (times (sumOfSquares t)) (sym (q .ray)) }
   where
@@ -142,9 +143,6 @@ matrix-step z t P a h w p = record { to = q .place; ok = q .ok; leads = m .leads
     q : PlaceOf f (z .size) k (permuted (m .by) (rayIn z P))
     q = cube-place f (z .size) k (permuted (m .by) (rayIn z P))
         (cube-permuted f (z .size) k (m .by) (rayIn z P) (ray-cube f (z .size) k P p))
-
-pub cube-step : (z : Shape) (t : Rotation) (P : Place) → z .size ≤ 512 → 0 < sumOfSquares t → CubeRotation t → IsPlace (z .size) P → Step z t P
-cube-step z t P a h c p = matrix-step z t P a h (cube-matrix t c) p
 
 -- "exactly one place has that ray"
 pub led-only : (z : Shape) (t : Rotation) (P Q R : Place) → z .size ≤ 512 → 0 < sumOfSquares t → IsPlace (z .size) Q → IsPlace (z .size) R
@@ -179,14 +177,3 @@ converted-own s n m source P Q c same q e =
     ∙ led-value (s .sourceShape) (s .sourceLayout) source (s .sampler) (s .rotation) P Q
     (size-range (s .sourceShape .size) (c .source-size) .at-most) (sum-positive (s .rotation) (c .rotation-nonzero))
     (layout-holds (s .sourceLayout) (c .source-layout)) (c .samples) q e
-
--- so a conversion by a cube rotation to a frame of the source's shape gives, at each place, the source's own sample at the place to which it leads
-pub converted-cube : (s : ConvertSettings) (n m : ℕ) (source : List ℕ) (P : Place) → ConvertPassed s n m source → targetShape s ≡ s .sourceShape
-    → CubeRotation (s .rotation) → (p : IsPlace (s .sourceShape .size) P)
-    → (Q : Step (s .sourceShape) (s .rotation) P)
-    × (convertedSample s source P ≡ sampleAtPlace source (s .sourceShape .size) (s .sourceLayout) (Q .to))
-converted-cube s n m source P c same cube p = (Q, converted-own s n m source P (Q .to) c same (Q .ok) (Q .leads))
-  where
-    Q : Step (s .sourceShape) (s .rotation) P
-    Q = cube-step (s .sourceShape) (s .rotation) P (size-range (s .sourceShape .size) (c .source-size) .at-most)
-        (sum-positive (s .rotation) (c .rotation-nonzero)) cube p

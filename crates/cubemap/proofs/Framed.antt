@@ -2,9 +2,9 @@
 use mathlib.Core.Path.{_≡_, refl, sym, _∙_, ap, ap₂, subst}
 use mathlib.Core.Bool.{false, not}
 use mathlib.Core.List.{List, [], _∷_, _++_}
-use Prim.Native.Nat.{ℕ, zero, suc, _+_, _*_, _^_, _≤_, _<_}
+use Prim.Native.Nat.{ℕ, zero, suc, _+_, _*_, _^_, _<_}
 use native.Mathlib.Decide.{ℕ-discrete}
-use native.Mathlib.Nat.{le-refl, pow-le-pow-right}
+use native.Mathlib.Nat.{le-refl}
 use native.Mathlib.Omega.{arith}
 use lib.Dec.{T, T-not, eqb, eqb→eq, eqb-refl, ltb→lt, lt→ltb}
 use lib.ListN.{length, length-append, take, drop, getD, List·getD-append}
@@ -17,7 +17,7 @@ use Rattle.cubemap.specs.declared.Shape.{Shape}
 use Rattle.cubemap.specs.Interface.{littleEndian}
 use Rattle.cubemap.specs.Frames.{IsPlace, sampleAt, withinDepth, framed, planeSamples, samplesIn, bytesIn, index, placeAt, sampleAtPlace}
 use Rattle.cubemap.specs.Checks.{depthOK, lengthOK, sampleOK, samplesOK, lowestBeyond, samplesCheck}
-use Rattle.cubemap.proofs.Passed.{depth-range}
+use Rattle.cubemap.proofs.Passed.{depth-levels}
 use Rattle.cubemap.proofs.Layouts.{LayoutHolds}
 use Rattle.cubemap.proofs.Indices.{index-ok, placeAt-index, placeAt-ok}
 
@@ -174,9 +174,7 @@ place-below z L bytes P o t p = samples-below z bytes t (index (z .size) L P) (i
 
 -- a sample within the depth fits two bytes
 pub depth-fits : (D v : ℕ) → T (depthOK D) → v < 2 ^ D → v < 65536
-depth-fits D v t h =
-    let p : 2 ^ D ≤ 2 ^ 12 = pow-le-pow-right (omega arith) (depth-range D t .at-most) in
-    omega arith
+depth-fits D v t h = omega (arith, depth-levels D t)
 
 pub planeOf-length : (z : Shape) (L : List ℕ) (g : Place → ℕ) → T (lengthOK z (length (planeOf (z .size) L g)))
 planeOf-length z L g = subst T (sym (length-test z (length bytes))) (subst (λ n. T (eqb (length bytes) n)) long (eqb-refl (length bytes)))

@@ -2,7 +2,8 @@
 use mathlib.Core.Path.{_≡_, refl, sym, _∙_, ap}
 use mathlib.Core.Bool.{Bool, true, false, _&&_, not, cond}
 use mathlib.Core.List.{List, [], _∷_, _++_}
-use Prim.Native.Nat.{ℕ, _≤_, _<_}
+use Prim.Native.Nat.{ℕ, _^_, _≤_, _<_}
+use native.Mathlib.Nat.{pow-le-pow-right}
 use native.Mathlib.Omega.{arith}
 use lib.Dec.{T, eqb, leb, leb→le, le→leb, T-not}
 use lib.ListN.{length}
@@ -160,6 +161,9 @@ depth-test D = refl
 pub depth-range : (D : ℕ) → T (depthOK D) → Between 8 12 D
 unfolding depthOK
 depth-range D t = between-is 8 12 D t
+
+pub depth-levels : (D : ℕ) → T (depthOK D) → 2 ^ D ≤ 2 ^ 12
+depth-levels D t = pow-le-pow-right (omega arith) (depth-range D t .at-most)
 
 -- 4
 pub code-test : (c : ℕ) → codeOK c ≡ leb c 1

@@ -11,7 +11,7 @@ use Rattle.cubemap.specs.declared.Shape.{Shape}
 use Rattle.cubemap.specs.Interface.{formatOf}
 use Rattle.cubemap.specs.Frames.{IsPlace, sampleAtPlace}
 use Rattle.cubemap.specs.Score.{weight, squaredDifference, errorSum, weightSum}
-use Rattle.cubemap.specs.Checks.{ScoreSettings, check, firstFailed, sizeOK, depthOK, codeOK, layoutOK, lengthOK, samplesOK, lowestBeyond}
+use Rattle.cubemap.specs.Checks.{ScoreSettings, scoreSettings, check, firstFailed, sizeOK, depthOK, codeOK, layoutOK, lengthOK, samplesOK, lowestBeyond}
 use Rattle.cubemap.specs.Checks.{scoreChecks}
 use Rattle.cubemap.specs.Outcomes.{ifAccepted, scoreValues, scoreResult}
 use Rattle.cubemap.proofs.Places.{OneToOne, over-cong, over-step}
@@ -44,9 +44,6 @@ pub record SameToChecks (z : Shape) (L L′ x x′ : List ℕ) : Type 0 where
 abbrev errorsOf : ScoreSettings → List ℕ → List ℕ → ℕ
 errorsOf s x y = errorSum (formatOf (s .shape .format)) (s .shape .size)
     (sampleAtPlace x (s .shape .size) (s .firstLayout)) (sampleAtPlace y (s .shape .size) (s .secondLayout))
-
-abbrev pub scoreSettings : Shape → List ℕ → List ℕ → ScoreSettings
-scoreSettings z L M = record { shape = z; firstLayout = L; secondLayout = M }
 
 pub score-same : {z : Shape} {L L′ M M′ x x′ y y′ : List ℕ} → SameToChecks z L L′ x x′ → SameToChecks z M M′ y y′
     → errorsOf (scoreSettings z L M) x y ≡ errorsOf (scoreSettings z L′ M′) x′ y′

@@ -46,6 +46,9 @@ pub record ScoreSettings : Type 0 where
   pub firstLayout : List ℕ
   pub secondLayout : List ℕ
 
+abbrev pub scoreSettings : Shape → List ℕ → List ℕ → ScoreSettings
+scoreSettings z firstLayout secondLayout = record { shape = z; firstLayout = firstLayout; secondLayout = secondLayout }
+
 -- ---- a check, and the first that fails
 
 pub record Check : Type 0 where

@@ -10,12 +10,12 @@ use Rattle.arithmetic.proofs.Tests.{passes, same-test}
 use Rattle.cubemap.specs.declared.Place.{Place}
 use Rattle.cubemap.specs.Interface.{formatOf}
 use Rattle.cubemap.specs.Frames.{Frame, IsPlace, sampleAtPlace}
-use Rattle.cubemap.specs.Checks.{sizeOK, depthOK, codeOK, layoutOK, lengthOK, samplesOK, lowestBeyond}
+use Rattle.cubemap.specs.Checks.{scoreSettings, sizeOK, depthOK, codeOK, layoutOK, lengthOK, samplesOK, lowestBeyond}
 use Rattle.cubemap.specs.Outcomes.{written, scoreResult}
 use Rattle.cubemap.specs.Promises.{Gives, ConvertCall, ConvertPromise, ScoreCall, ScorePromise}
 use Rattle.cubemap.proofs.Passed.{size-range}
 use Rattle.cubemap.proofs.Framed.{beyond-none}
-use Rattle.cubemap.proofs.Scores.{error-moved, SameToChecks, scoreSettings, score-same}
+use Rattle.cubemap.proofs.Scores.{error-moved, SameToChecks, score-same}
 use Rattle.sequences.specs.Steps.{ledTo, SamePlaces}
 use Rattle.sequences.specs.Model.{Model, modelOf}
 use Rattle.sequences.specs.Runs.{lastFrame, Keeping, Run}

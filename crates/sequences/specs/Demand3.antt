@@ -11,7 +11,7 @@ use Rattle.cubemap.specs.declared.Shape.{Shape}
 use Rattle.cubemap.specs.Interface.{returnCode}
 use Rattle.cubemap.specs.Frames.{Frame, IsPlace, frameSample}
 use Rattle.cubemap.specs.Rotations.{identity, composeAll, CubeRotation}
-use Rattle.cubemap.specs.Checks.{ScoreSettings, sizeOK, depthOK, codeOK, layoutOK, rotationNonzero, lengthOK, samplesOK}
+use Rattle.cubemap.specs.Checks.{ScoreSettings, scoreSettings, sizeOK, depthOK, codeOK, layoutOK, rotationNonzero, lengthOK, samplesOK}
 use Rattle.cubemap.specs.Outcomes.{Result, written, scoreResult}
 use Rattle.cubemap.specs.Promises.{Gives, ConvertCall, ConvertPromise, ScoreCall, ScorePromise}
 use Rattle.sequences.specs.Steps.{Leads, ledTo, ExactlyOne, SamePlaces}
@@ -87,7 +87,7 @@ Scorer = ScoreCall → Type 0
 
 -- the settings of a score of two frames "of equal size, depth and format"
 abbrev pub scoring : Frame → Frame → ScoreSettings
-scoring F G = record { shape = F .shape; firstLayout = F .layout; secondLayout = G .layout }
+scoring F G = scoreSettings (F .shape) (F .layout) (G .layout)
 
 -- "the paper's score" of two such frames: number, index and sums
 abbrev pub paperScore : Frame → Frame → Result
