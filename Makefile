@@ -1,5 +1,5 @@
 # `make` proves the crates, builds the archive and the program `rays`, runs the C example and the program, and shows the marked cases;
-# `make test` is what .ci/run calls; `make bench` measures a conversion.
+# `make test` is what .ci/run calls; `make bench` measures a conversion and a score.
 .PHONY: all test clean tools format verdict prove archive program example listing reference conformance marked bench
 # One step after the other, in the order in which a target names them.
 .NOTPARALLEL:
@@ -69,9 +69,9 @@ listing: program
 	@echo
 
 example: archive
-	@echo "A C program that is linked with the archive (examples/four_calls.c):"
-	@$(CC) $(CFLAGS) -Iinclude examples/four_calls.c build/libwelchodrys.a -o build/four_calls
-	@build/four_calls
+	@echo "A C program that is linked with the archive (examples/five_calls.c):"
+	@$(CC) $(CFLAGS) -Iinclude examples/five_calls.c build/libwelchodrys.a -o build/five_calls
+	@build/five_calls
 	@echo
 
 # The reference is written from the paper alone; the archive and the program are compared with it.
@@ -93,10 +93,11 @@ conformance:
 	@echo "$$(wc -l <build/conformance) lines, 0 differences"
 	@echo
 
-# All conversions in one program; those in double precision are compiled for speed, without a switch that changes their arithmetic.
+# All conversions and scores in one program; those in double precision are compiled for speed, without a switch that changes their
+# arithmetic.
 bench: archive
-	@echo "The archive's conversion measured side by side with two in double precision (bench):"
-	@$(CC) $(CFLAGS) -O3 -Iinclude bench/bench.c bench/straightforward.c bench/tuned.c build/libwelchodrys.a -lm -o build/bench
+	@echo "The archive's conversion and its score, each measured side by side with two in double precision (bench):"
+	@$(CC) $(CFLAGS) -O3 -Iinclude bench/*.c build/libwelchodrys.a -lm -o build/bench
 	@build/bench
 
 clean:

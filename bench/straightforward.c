@@ -4,6 +4,7 @@
  */
 #include "cube.h"
 #include "double_precision.h"
+#include "layouts.h"
 #include "welchodrys.h"
 
 #include <math.h>
@@ -17,9 +18,8 @@ struct position {
 /* What stays the same for all samples of a conversion. */
 struct setting {
     const struct conversion *conversion;
-    const uint8_t *source;
+    struct view source;
     double matrix[3][3];
-    int slot_of_face[6];
 };
 
 /* Where the middle of a column or row lies on a face, from -1 to 1; in ACP by equation 12. */
@@ -46,27 +46,11 @@ static struct position position_of(const struct conversion *conversion, struct r
     return (struct position){at.face, position_on_face(conversion, at.u), position_on_face(conversion, at.v)};
 }
 
-/* The source's sample at column m and row n of a face, which the layout puts into a slot after clockwise quarter turns. */
-static int sample_at(const struct setting *setting, int face, int m, int n)
-{
-    const int size = setting->conversion->size, last = size - 1;
-    const int slot = setting->slot_of_face[face];
-    int column = m, row = n;
-    switch (setting->conversion->layout[6 + slot]) {
-    case 1: column = last - n, row = m; break;
-    case 2: column = last - m, row = last - n; break;
-    case 3: column = n, row = last - m; break;
-    default: break;
-    }
-    const int index = (slot / 3 * size + row) * 3 * size + slot % 3 * size + column;
-    return setting->source[2 * index] | setting->source[2 * index + 1] << 8;
-}
-
 static int nearest(const struct setting *setting, struct position at)
 {
     const int last = setting->conversion->size - 1;
     const int column = (int)floor(at.column + 0.5), row = (int)floor(at.row + 0.5);
-    return sample_at(setting, at.face, clip(column, last), clip(row, last));
+    return sample_at(&setting->source, at.face, clip(column, last), clip(row, last));
 }
 
 /* The weights of four taps in a line, for a position that lies `phase` behind the second. */
@@ -90,7 +74,7 @@ static int cubic(const struct setting *setting, struct position at)
     double sum = 0;
     for (int i = 0; i < 4; i++)
         for (int j = 0; j < 4; j++)
-            sum += down[i] * across[j] * sample_at(setting, at.face, clip(column - 1 + j, last), clip(row - 1 + i, last));
+            sum += down[i] * across[j] * sample_at(&setting->source, at.face, clip(column - 1 + j, last), clip(row - 1 + i, last));
     return clip((int)floor(sum + 0.5), (1 << setting->conversion->depth) - 1);
 }
 
@@ -114,10 +98,8 @@ static int value_in_frame(const struct setting *setting, int frame_column, int f
 
 void convert_straightforward(const struct conversion *conversion, const uint8_t *source, uint8_t *target)
 {
-    struct setting setting = {.conversion = conversion, .source = source};
+    struct setting setting = {.conversion = conversion, .source = view_of(source, conversion->layout, conversion->size)};
     set_matrix(conversion->turn, setting.matrix);
-    for (int slot = 0; slot < 6; slot++)
-        setting.slot_of_face[conversion->layout[slot]] = slot;
 
     const int columns = 3 * conversion->size, rows = 2 * conversion->size;
     for (int row = 0; row < rows; row++)

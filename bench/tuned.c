@@ -5,6 +5,7 @@
  */
 #include "cube.h"
 #include "double_precision.h"
+#include "layouts.h"
 #include "welchodrys.h"
 
 #include <math.h>
@@ -15,11 +16,6 @@ enum { LARGEST_FACE_SIZE = 512 /* that of welchodrys_convert */ };
 /* A position on a source face; column and row are in 64ths of a sample, as a look-up gives them. */
 struct position {
     int face, column, row;
-};
-
-/* The sample at a face's column m and row n has the index base + m * across + n * down. */
-struct steps {
-    ptrdiff_t base, across, down;
 };
 
 /* What stays the same for all samples of a conversion. */
@@ -40,29 +36,6 @@ static void set_coordinates(int format, int size, double coordinates[LARGEST_FAC
         const double curved = (0.34 - sqrt(0.34 * 0.34 - 0.09 * fabs(plain))) / 0.18;
         coordinates[i] = format == WELCHODRYS_CMP ? plain : copysign(curved, plain);
     }
-}
-
-/* A face's steps in a slot whose top left sample has the index `corner`, after clockwise quarter turns. */
-static struct steps steps_in_slot(ptrdiff_t size, ptrdiff_t corner, int turns)
-{
-    const ptrdiff_t line = 3 * size, last = size - 1;
-    switch (turns) {
-    case 0: return (struct steps){corner, 1, line};
-    case 1: return (struct steps){corner + last, line, -1};
-    case 2: return (struct steps){corner + last * line + last, -1, -line};
-    default: return (struct steps){corner + last * line, -line, 1};
-    }
-}
-
-static ptrdiff_t corner_of(ptrdiff_t size, int slot)
-{
-    return slot / 3 * size * 3 * size + slot % 3 * size;
-}
-
-static void set_steps(int size, const uint8_t *layout, struct steps steps[6])
-{
-    for (int slot = 0; slot < 6; slot++)
-        steps[layout[slot]] = steps_in_slot(size, corner_of(size, slot), layout[6 + slot]);
 }
 
 /* From -1 to 1 across a face to 64ths of a sample, in ACP by equation 14. What is cast is not negative, so it is rounded down. */

@@ -88,6 +88,24 @@ uint64_t welchodrys_convert(uint64_t source_size, uint64_t target_size, uint64_t
     const uint8_t *source, size_t source_length, uint8_t *target, size_t target_length);
 
 /*
+ * Scores two frames by their weighted squared error. A place is a column m and a row n of a face, and A is the size; with
+ * p = 2m + 1 - A and q = 2n + 1 - A, the place's weight is the largest whole W with W^2 * (A^2 + p^2 + q^2)^3 <= 2^32 * A^6, in both
+ * formats. The error sum adds up, over all places, W times the squared difference of the two frames' samples there; the weight sum
+ * adds up W over all 6 * A * A places. Each frame has its own layout; size, depth and format are common.
+ *
+ * The error sum divided by the weight sum is the weighted mean squared error. Both sums are exact: the error sum is below 2^61, and
+ * the weight sum is never 0.
+ *
+ * Asks 1 of the size, 3 of the depth, 4 of the format, 5 of both layouts, 8 of the first frame's length, 9 of the second's, 10 of the
+ * first frame's samples, then 11 of the second's. Writes two numbers, 16 bytes: the error sum, then the weight sum. Both frames and
+ * both layouts stay; they may share memory, since none of them is written.
+ */
+uint64_t welchodrys_score(uint64_t size, uint64_t depth, uint64_t format,
+    const uint8_t *first_layout, size_t first_layout_length, const uint8_t *second_layout, size_t second_layout_length,
+    const uint8_t *first, size_t first_length, const uint8_t *second, size_t second_length,
+    uint8_t *answer, size_t answer_length);
+
+/*
  * Folds a first and a later turn into one: their quaternion product, the first on the left, divided by the greatest whole number
  * that divides all four numbers; then, if the first nonzero number is negative, all four change sign.
  *

@@ -3,6 +3,7 @@
 use crate::checks::{self, Refusal};
 use crate::conversions::Conversion;
 use crate::frames::{Frame, Shape};
+use crate::scores::{self, Score};
 use crate::{positions, rotations};
 
 /// "A C call returns its number plus 256 × the index.", and "All lent memory keeps its bytes" where the call is refused.
@@ -65,6 +66,39 @@ pub fn accepted_conversion(arguments: ConvertArguments, target_length: usize) ->
     let source = Shape { size: source_size, depth, format: source_format, layout: source_layout };
     let target = Shape { size: target_size, depth, format: target_format, layout: target_layout };
     Ok(Conversion::new(Frame { shape: source, bytes: arguments.source }, target, rotation, sampler))
+}
+
+/// What score is told and lent, but for the answer buffer.
+#[derive(Clone, Copy)]
+pub struct ScoreArguments<'lent> {
+    pub size: u64,
+    pub depth: u64,
+    pub format: u64,
+    pub first_layout: &'lent [u8],
+    pub second_layout: &'lent [u8],
+    pub first: &'lent [u8],
+    pub second: &'lent [u8],
+}
+
+/// Scores two frames; the answer is "score's two sums".
+pub fn score(arguments: ScoreArguments, answer: &mut [u8]) -> u64 {
+    finished(score_outcome(arguments), |score| write_numbers(&[score.errors, score.weights].map(i128::from), answer))
+}
+
+/// "Score puts 1, 3, 4, 5, 8 to 11." "Each frame has its own layout; size, depth and format are common."
+fn score_outcome(arguments: ScoreArguments) -> Result<Score, Refusal> {
+    let size = checks::face_size(arguments.size.into())?;
+    let depth = checks::depth(arguments.depth.into())?;
+    let format = checks::format(arguments.format.into())?;
+    let first_layout = checks::layout(arguments.first_layout)?;
+    let second_layout = checks::layout(arguments.second_layout)?;
+    checks::first_length(arguments.first.len(), size)?;
+    checks::second_length(arguments.second.len(), size)?;
+    checks::first_samples(arguments.first, depth)?;
+    checks::second_samples(arguments.second, depth)?;
+    let first = Frame { shape: Shape { size, depth, format, layout: first_layout }, bytes: arguments.first };
+    let second = Frame { shape: Shape { size, depth, format, layout: second_layout }, bytes: arguments.second };
+    Ok(scores::score(first, second))
 }
 
 /// "Fold puts 6, 7, 12"; the answer is "fold's four numbers".
@@ -242,6 +276,129 @@ mod tests {
                     let refused = (10 + 256 * index as u64, vec![0xEE; 48]);
                     assert_eq!(answered(48, |target| convert(call, target)), refused);
                 }
+            }
+        });
+    }
+
+    /// A score in range of two frames of size 2 with different layouts, 0 against 255 at all places.
+    fn with_score(test: impl Fn(ScoreArguments)) {
+        test(ScoreArguments {
+            size: 2,
+            depth: 8,
+            format: 0,
+            first_layout: &USUAL_LAYOUT,
+            second_layout: &[5, 4, 3, 2, 1, 0, 0, 1, 2, 3, 0, 1],
+            first: &[0; 48],
+            second: &[255, 0].repeat(24),
+        });
+    }
+
+    #[test]
+    fn p8_a_score() {
+        let call = ScoreArguments {
+            size: 1,
+            depth: 8,
+            format: 0,
+            first_layout: &USUAL_LAYOUT,
+            second_layout: &USUAL_LAYOUT,
+            first: &[10, 0].repeat(6),
+            second: &[12, 0].repeat(6),
+        };
+        assert_eq!(answered(16, |answer| score(call, answer)), (0, bytes(&[1_572_864, 393_216])));
+    }
+
+    #[test]
+    fn score_asks_in_order() {
+        with_score(|good| {
+            let wrong_samples = [0xFF; 48];
+            // The first arguments are wrong for all questions; each of the next mends what the one before it is refused for.
+            let mut call = ScoreArguments {
+                size: 513,
+                depth: 7,
+                format: 2,
+                first_layout: &[0; 12],
+                second_layout: &[0; 11],
+                first: &wrong_samples[1..],
+                second: &wrong_samples[2..],
+            };
+            let refused = |call, code| assert_eq!(answered(17, |answer| score(call, answer)), (code, vec![0xEE; 17]));
+            refused(call, 1);
+            call.size = 2;
+            refused(call, 3);
+            call.depth = 8;
+            refused(call, 4);
+            call.format = 1;
+            refused(call, 5);
+            call.first_layout = good.first_layout;
+            refused(call, 5);
+            call.second_layout = good.second_layout;
+            refused(call, 8);
+            call.first = &wrong_samples;
+            refused(call, 9);
+            call.second = &wrong_samples;
+            refused(call, 10);
+            call.first = good.first;
+            refused(call, 11);
+            call.second = good.second;
+            assert_eq!(answered(16, |answer| score(call, answer)).0, 0);
+        });
+    }
+
+    #[test]
+    fn score_asks_both_frames() {
+        with_score(|good| {
+            let code = |call| answered(16, |answer| score(call, answer)).0;
+            for size in [0, 513, 1 << 32, u64::MAX] {
+                assert_eq!(code(ScoreArguments { size, ..good }), 1);
+            }
+            for depth in [0, 7, 13, u64::MAX] {
+                assert_eq!(code(ScoreArguments { depth, ..good }), 3);
+            }
+            for format in [2, 256, u64::MAX] {
+                assert_eq!(code(ScoreArguments { format, ..good }), 4);
+            }
+            let (face_twice, large_turn) = ([0, 1, 2, 3, 4, 4, 0, 0, 0, 0, 0, 0], [0, 1, 2, 3, 4, 5, 0, 0, 0, 0, 0, 4]);
+            for wrong in [&face_twice[..], &large_turn, &USUAL_LAYOUT[..11], &[]] {
+                assert_eq!(code(ScoreArguments { first_layout: wrong, ..good }), 5);
+                assert_eq!(code(ScoreArguments { second_layout: wrong, ..good }), 5);
+            }
+            let zeros = [0; 108];
+            for length in [0, 12, 46, 47, 49, 50, 108] {
+                assert_eq!(code(ScoreArguments { first: &zeros[..length], ..good }), 8);
+                assert_eq!(code(ScoreArguments { second: &zeros[..length], ..good }), 9);
+            }
+        });
+    }
+
+    #[test]
+    fn the_lowest_index_of_each_frame() {
+        with_score(|good| {
+            for depth in 8..=12 {
+                let (mut frame, beyond) = (good.second.to_vec(), (1_u16 << depth).to_le_bytes());
+                for index in [23, 11, 0] {
+                    frame[2 * index..2 * index + 2].copy_from_slice(&beyond);
+                    let refused = |call, number| {
+                        let code = number + 256 * index as u64;
+                        assert_eq!(answered(16, |answer| score(call, answer)), (code, vec![0xEE; 16]));
+                    };
+                    refused(ScoreArguments { depth, first: &frame, ..good }, 10);
+                    refused(ScoreArguments { depth, second: &frame, ..good }, 11);
+                }
+            }
+        });
+    }
+
+    #[test]
+    fn a_sum_that_does_not_fit_is_not_written() {
+        with_score(|good| {
+            let weights = 24 * 35_673;
+            let whole = bytes(&[255 * 255 * weights, weights]);
+            for length in 0..=40 {
+                let (code, answer) = answered(length, |answer| score(good, answer));
+                let written = (length / 8 * 8).min(16);
+                assert_eq!(code, 0);
+                assert_eq!(answer[..written], whole[..written]);
+                assert!(answer[written..].iter().all(|&byte| byte == 0xEE));
             }
         });
     }

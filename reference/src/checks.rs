@@ -20,6 +20,15 @@ fn ask(number: u64, holds: bool) -> Result<(), Refusal> {
     }
 }
 
+/// "For 10 and 11 the lowest offending index comes with it".
+fn ask_samples(number: u64, bytes: &[u8], depth: i64) -> Result<(), Refusal> {
+    let beyond = |sample: u16| i64::from(sample) > largest_sample(depth);
+    match samples(bytes).position(beyond) {
+        Some(index) => Err(Refusal { number, index: index as u64 }),
+        None => Ok(()),
+    }
+}
+
 /// Whether all numbers are −31 to 31.
 fn small(rotation: &Rotation) -> bool {
     rotation.iter().all(|number| (-31..=31).contains(number))
@@ -83,13 +92,14 @@ pub fn second_length(length: usize, size: i64) -> Result<(), Refusal> {
     ask(9, length as i64 == frame_bytes(size))
 }
 
-/// "10. Is every sample of the first frame within the depth?" "the lowest offending index comes with it"
+/// "10. Is every sample of the first frame within the depth?"
 pub fn first_samples(bytes: &[u8], depth: i64) -> Result<(), Refusal> {
-    let beyond = |sample: u16| i64::from(sample) > largest_sample(depth);
-    match samples(bytes).position(beyond) {
-        Some(index) => Err(Refusal { number: 10, index: index as u64 }),
-        None => Ok(()),
-    }
+    ask_samples(10, bytes, depth)
+}
+
+/// "11. And of the second?"
+pub fn second_samples(bytes: &[u8], depth: i64) -> Result<(), Refusal> {
+    ask_samples(11, bytes, depth)
 }
 
 /// "12. Is each number of the folded turn −31 to 31?"

@@ -3,8 +3,9 @@
 //! a number did not fit, the program would end and not go on with a wrong one. It is meant to be read beside the paper and is not
 //! made for speed.
 //!
-//! The paper's turn, fold, question, T and look-up are rotation, composition, check, position64 and location here. The module
-//! `random` is no part of the paper: the tests that compare take their numbers from it.
+//! The paper's turn, fold, question, T and look-up are rotation, composition, check, position64 and location here. The modules
+//! `searches` and `random` are no part of the paper: the first finds its "largest whole" numbers, and from the second the tests
+//! that compare take theirs.
 
 pub mod calls;
 pub mod checks;
@@ -16,3 +17,5 @@ pub mod random;
 pub mod rays;
 pub mod rotations;
 pub mod samplers;
+pub mod scores;
+mod searches;

@@ -2,24 +2,19 @@
 
 use crate::frames::{subscript, Place};
 use crate::positions::Format;
+use crate::searches::largest;
 
 /// "ACP: s = N = 65,536".
 const N: i64 = 65_536;
 
-/// "the size of a is the largest whole c from 0 to N with c·(34N − 9c)·A ≤ 25·N²·|p|". The left side grows with c as far as N, so
-/// it is enough to halve the interval from a c that is small enough to one that is too large.
+/// "Let p = 2m+1−A and q = 2n+1−A.": p of a column m, or q of a row n.
+pub fn from_middle(size: i64, number: i64) -> i64 {
+    2 * number + 1 - size
+}
+
+/// "the size of a is the largest whole c from 0 to N with c·(34N − 9c)·A ≤ 25·N²·|p|". The left side grows with c as far as N.
 pub fn curve(size: i64, p: i64) -> i64 {
-    let small_enough = |c: i64| c * (34 * N - 9 * c) * size <= 25 * N * N * p.abs();
-    let (mut largest, mut too_large) = (0, N + 1);
-    while too_large - largest > 1 {
-        let middle = (largest + too_large) / 2;
-        if small_enough(middle) {
-            largest = middle;
-        } else {
-            too_large = middle;
-        }
-    }
-    largest
+    largest(N, |c| c * (34 * N - 9 * c) * size <= 25 * N * N * p.abs())
 }
 
 /// The rays of all places of a cube: the scale s, and the a of each column, which is the b of the row with the same number.
@@ -30,10 +25,10 @@ pub struct Grid {
 }
 
 impl Grid {
-    /// "Let p = 2m+1−A and q = 2n+1−A. CMP: scale s = A, a = p, b = q. ACP: s = N = 65,536"; the size of a is the curve's, "its
-    /// sign that of p; b likewise from q."
+    /// "CMP: scale s = A, a = p, b = q. ACP: s = N = 65,536"; the size of a is the curve's, "its sign that of p; b likewise from
+    /// q."
     pub fn new(format: Format, size: i64) -> Grid {
-        let p = |m: i64| 2 * m + 1 - size;
+        let p = |m: i64| from_middle(size, m);
         match format {
             Format::Cmp => Grid { scale: size, coordinates: (0..size).map(p).collect() },
             Format::Acp => {

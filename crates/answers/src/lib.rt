@@ -5,7 +5,7 @@ ghost use lib.IntN.{pos};
 ghost use lib.ListN.{length};
 ghost use lib.Seq.{sets};
 ghost use Rattle.cubemap.specs.Interface.{littleEndian, twosComplement, putAt, putAll, returnCode};
-ghost use Rattle.cubemap.specs.Outcomes.{foldValues, equalValues, lookUpValues, refusal};
+ghost use Rattle.cubemap.specs.Outcomes.{scoreValues, foldValues, equalValues, lookUpValues, refusal};
 use cubemap::Located;
 use cubemap::Refusal;
 use cubemap::Rotation;
@@ -65,6 +65,13 @@ fn put_signed(buffer: &mut [u8], k: usize, v: i64)
 }
 
 // ---- the values of each call
+
+pub fn put_sums(answer: &mut [u8], errors: u64, weights: u64)
+    ensures { λ _. ⌜ now (answer .exit) ≡ putAll (now (answer .entry)) 0 (scoreValues errors weights) ⌝ }
+{
+    put(answer, 0, errors);
+    put(answer, 1, weights);
+}
 
 pub fn put_rotation(answer: &mut [u8], t: Rotation)
     ensures { λ _. ⌜ now (answer .exit) ≡ putAll (now (answer .entry)) 0 (foldValues t) ⌝ }

@@ -19,6 +19,22 @@ unfolding sumBelow
 sum-cong zero f g h = refl
 sum-cong (suc n) f g h = ap₂ _+_ (sum-cong n f g (λ i l. h i (omega arith))) (h n (omega arith))
 
+-- no number is below 0
+pub sum-empty : (f : ℕ → ℕ) → sumBelow f 0 ≡ 0
+unfolding sumBelow
+sum-empty f = refl
+
+-- one number more
+pub sum-next : (f : ℕ → ℕ) (n : ℕ) → sumBelow f (n + 1) ≡ sumBelow f n + f n
+unfolding sumBelow
+sum-next f n = rw (add-one n)
+
+-- the same term n times
+pub sum-same : (n c : ℕ) → sumBelow (λ i. c) n ≡ n * c
+unfolding sumBelow
+sum-same zero c = omega arith
+sum-same (suc n) c = omega (arith, sum-same n c)
+
 pub sum-zero : (n : ℕ) → sumBelow (λ i. 0) n ≡ 0
 unfolding sumBelow
 sum-zero zero = refl

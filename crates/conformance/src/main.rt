@@ -1,10 +1,11 @@
-// Runs a fixed list of conversions through the exported call and prints a line for each, so that what the part gives can be compared byte by byte
-// with what a program that was written from the paper gives. The conversions try each number of a call at the ends of its range and beyond them, each
-// layout with each, whole-cube turns, and damaged buffers.
+// Runs a fixed list of conversions through the exported calls, scores the source against each target, and prints a line for each, so that what the
+// part gives can be compared byte by byte with what a program that was written from the paper gives. The conversions try each number of a call at the
+// ends of its range and beyond them, each layout with each, whole-cube turns, and damaged buffers.
 //
-// Behind a heading, a line holds 16 numbers: source size, target size, depth, source format, target format, sampler, source layout, target layout,
-// the turn's four numbers, damage; then what the call answered, the number of its refusal (0 where there is none) and the index, and the digest of
-// the target's bytes after the call.
+// Behind a heading, a line holds 20 numbers: source size, target size, depth, source format, target format, sampler, source layout, target layout,
+// the turn's four numbers, damage; then what the conversion answered, the number of its refusal (0 where there is none) and the index, and the digest
+// of the target's bytes after the call; then what a score of the source against the target answered, with the source's size, depth and format: the
+// number of its refusal and the index, and the two numbers in its answer buffer, which are 0 where it wrote none.
 //
 // Layouts: 0 is the usual one; 1, 2 and 3 are valid too; 4 has a face twice, 5 a slot turned four times, 6 only eleven bytes.
 //
@@ -19,8 +20,8 @@ use libc::STDOUT_FILENO;
 // The most bytes that are lent: a frame of face size 512 and one byte more.
 const ROOM: usize = 3145729;
 
-// The most bytes of a line: 16 numbers, each with a sign, 20 digits and the byte behind them.
-const LINE: usize = 352;
+// The most bytes of a line: 20 numbers, each with a sign, 20 digits and the byte behind them.
+const LINE: usize = 440;
 
 // Each byte of the target before the call.
 const UNWRITTEN: u8 = 165;
@@ -42,10 +43,18 @@ struct Case {
     damage: u64,
 }
 
-// What a conversion came to: the code that the call returned and the digest of the target.
+// What a score came to: the code that the call returned and the two numbers of its answer.
+struct Scored {
+    code: u64,
+    errors: u64,
+    weights: u64,
+}
+
+// What a conversion came to: the code that the call returned, the digest of the target, and the score of the source against it.
 struct Outcome {
     code: u64,
     digest: u64,
+    score: Scored,
 }
 
 // ---- the source's samples
@@ -178,12 +187,14 @@ fn lent(size: u64, short: bool, long: bool) -> usize
     whole
 }
 
-// The call, with the bytes of the two frames: its code.
-fn call(case: Case, source: &[u8], target: &mut [u8]) -> u64 {
-    let source_layout = layout_bytes(case.source_layout);
-    let source_end = layout_length(case.source_layout);
-    let target_layout = layout_bytes(case.target_layout);
-    let target_end = layout_length(case.target_layout);
+// The conversion, with the bytes of the layouts and of the two frames: its code.
+fn convert(
+    case: Case,
+    source_layout: &[u8],
+    target_layout: &[u8],
+    source: &[u8],
+    target: &mut [u8],
+) -> u64 {
     let turn = case.turn;
     welchodrys::welchodrys_convert(
         case.source_size,
@@ -192,8 +203,8 @@ fn call(case: Case, source: &[u8], target: &mut [u8]) -> u64 {
         case.source_format,
         case.target_format,
         case.sampler,
-        &source_layout[..source_end],
-        &target_layout[..target_end],
+        source_layout,
+        target_layout,
         turn.e0,
         turn.e1,
         turn.e2,
@@ -203,14 +214,81 @@ fn call(case: Case, source: &[u8], target: &mut [u8]) -> u64 {
     )
 }
 
-// The call on a target that is filled before it and looked at after it.
-fn convert(case: Case, source: &[u8], target: &mut [u8]) -> Outcome {
+// Four bytes of an answer as a number, the low one first.
+fn half_number(answer: &[u8; 16], at: usize) -> u64
+    requires { ⌜ at ≤ 12 ⌝ }
+    ensures { λ r. ⌜ r < 2 ^ 32 ⌝ }
+{
+    let low = wide(answer[at]) + 256 * wide(answer[at + 1]);
+    let high = wide(answer[at + 2]) + 256 * wide(answer[at + 3]);
+    low + 65536 * high
+}
+
+// Eight bytes of an answer as a number, the low one first.
+fn number_at(answer: &[u8; 16], at: usize) -> u64
+    requires { ⌜ at ≤ 8 ⌝ }
+{
+    half_number(answer, at) + 4294967296 * half_number(answer, at + 4)
+}
+
+// The score of the source against the target.
+fn score(
+    case: Case,
+    source_layout: &[u8],
+    target_layout: &[u8],
+    source: &[u8],
+    target: &[u8],
+) -> Scored {
+    let mut answer = [0u8; 16];
+    let code = welchodrys::welchodrys_score(
+        case.source_size,
+        case.depth,
+        case.source_format,
+        source_layout,
+        target_layout,
+        source,
+        target,
+        &mut answer,
+    );
+    Scored {
+        code: code,
+        errors: number_at(&answer, 0),
+        weights: number_at(&answer, 8),
+    }
+}
+
+// Both calls, on a target that is filled before them.
+fn convert_and_score(
+    case: Case,
+    source_layout: &[u8],
+    target_layout: &[u8],
+    source: &[u8],
+    target: &mut [u8],
+) -> Outcome {
     fill_target(target);
-    let code = call(case, source, target);
+    let code = convert(case, source_layout, target_layout, source, target);
+    let digest = digest_of(target);
+    let scored = score(case, source_layout, target_layout, source, target);
     Outcome {
         code: code,
-        digest: digest_of(target),
+        digest: digest,
+        score: scored,
     }
+}
+
+// Lends the layouts.
+fn with_layouts(case: Case, source: &[u8], target: &mut [u8]) -> Outcome {
+    let source_layout = layout_bytes(case.source_layout);
+    let source_end = layout_length(case.source_layout);
+    let target_layout = layout_bytes(case.target_layout);
+    let target_end = layout_length(case.target_layout);
+    convert_and_score(
+        case,
+        &source_layout[..source_end],
+        &target_layout[..target_end],
+        source,
+        target,
+    )
 }
 
 // Fills the source, and lends both frames.
@@ -221,7 +299,7 @@ fn run(case: Case, source: &mut [u8], target: &mut [u8]) -> Outcome
     fill_source(source, samples, case.depth, case.damage);
     let source_end = lent(case.source_size, case.damage == 1, case.damage == 2);
     let target_end = lent(case.target_size, case.damage == 3, case.damage == 4);
-    convert(case, &source[..source_end], &mut target[..target_end])
+    with_layouts(case, &source[..source_end], &mut target[..target_end])
 }
 
 // ---- its line: each function stores bytes from index `at` on and says where they end
@@ -289,10 +367,10 @@ fn put_turn(text: &mut [u8], at: usize, turn: Rotation) -> usize
     put_signed(text, fourth, turn.e3)
 }
 
-// The line of a conversion: the code is the refusal's number plus 256 times its index.
+// The line of a conversion: a code is the refusal's number plus 256 times its index.
 fn put_line(text: &mut [u8], case: Case, outcome: Outcome) -> usize
-    requires { ⌜ length (now text) ≡ 352 ⌝ }
-    ensures { λ r. ⌜ r ≤ 352 ⌝ }
+    requires { ⌜ length (now text) ≡ 440 ⌝ }
+    ensures { λ r. ⌜ r ≤ 440 ⌝ }
 {
     let numbers = [
         case.source_size,
@@ -304,12 +382,21 @@ fn put_line(text: &mut [u8], case: Case, outcome: Outcome) -> usize
         case.source_layout,
         case.target_layout,
     ];
-    let answer = [case.damage, outcome.code % 256, outcome.code / 256];
+    let score = outcome.score;
+    let answer = [
+        case.damage,
+        outcome.code % 256,
+        outcome.code / 256,
+        outcome.digest,
+        score.code % 256,
+        score.code / 256,
+        score.errors,
+    ];
     let turn = case.turn;
     let turn_at = put_numbers(text, 0, &numbers);
     let answer_at = put_turn(text, turn_at, turn);
-    let digest_at = put_numbers(text, answer_at, &answer);
-    put_number(text, digest_at, outcome.digest, b'\n')
+    let weights_at = put_numbers(text, answer_at, &answer);
+    put_number(text, weights_at, score.weights, b'\n')
 }
 
 // ---- the groups of conversions, each counted from 0
@@ -440,11 +527,11 @@ fn whole_cube_case(i: u64) -> Case
     mixed(plain(3, 3, 12, 0, 3, whole_cube_turn(i / 4)), mixes[mix])
 }
 
-// Group 6: each damage.
+// Group 6: each damage, to a smaller target and to one of the same size.
 fn damage_case(i: u64) -> Case
     ensures { λ r. ⌜ r .depth < 16 ⌝ }
 {
-    let mut r = mixed(plain(3, 2, 8, 2, 1, oblique_turn()), 5);
+    let mut r = mixed(plain(3, 2 + i / 6, 8, 2, 1, oblique_turn()), 5);
     r.damage = i % 6 + 1;
     r
 }
@@ -480,7 +567,7 @@ fn count_in(group: u64) -> u64 {
         3 => 32,
         4 => 49,
         5 => 32,
-        6 => 6,
+        6 => 12,
         _ => 4,
     }
 }
@@ -542,7 +629,7 @@ fn print_group(group: u64, source: &mut [u8; ROOM], target: &mut [u8; ROOM]) -> 
 fn print_all(source: &mut [u8; ROOM], target: &mut [u8; ROOM]) -> bool {
     let mut written = io::write_all(
         STDOUT_FILENO,
-        b"source target depth formats sampler layouts turn damage number index digest\n",
+        b"source target depth formats sampler layouts turn damage number index digest score score-index errors weights\n",
     );
     let mut group = 1;
     while group < 8 {

@@ -2,7 +2,7 @@
 ghost use mathlib.Core.Path.{_≡_};
 ghost use mathlib.Core.Bool.{_&&_};
 ghost use lib.ListN.{length};
-ghost use Rattle.cubemap.specs.Checks.{convertSettings, sizeOK, depthOK, codeOK, layoutOK};
+ghost use Rattle.cubemap.specs.Checks.{convertSettings, codeOK};
 ghost use Rattle.cubemap.specs.Outcomes.{outcome, convertedBytes, convertAnswer, convertOutcome, convertedMeans};
 ghost use Rattle.cubemap.proofs.ConvertChecks.{settingsAnswer};
 ghost use Rattle.cubemap.proofs.Passed.{ConvertPassed};
@@ -16,32 +16,11 @@ use resampling::Cube;
 
 // ---- the questions
 
-// Questions 1 and 2, of one face size.
-fn size_ok(size: u64) -> bool
-    ensures { λ r. ⌜ r ≡ sizeOK size ⌝ }
-{
-    (1 <= size) & (size <= 512)
-}
-
-// Question 3.
-fn depth_ok(depth: u64) -> bool
-    ensures { λ r. ⌜ r ≡ depthOK depth ⌝ }
-{
-    (8 <= depth) & (depth <= 12)
-}
-
 // Question 4, of both formats and the sampler.
 fn codes_ok(source_format: u64, target_format: u64, sampler: u64) -> bool
     ensures { λ r. ⌜ r ≡ (codeOK «source_format» && codeOK «target_format» && codeOK sampler) ⌝ }
 {
-    (source_format <= 1) & (target_format <= 1) & (sampler <= 1)
-}
-
-// Question 5, of both layouts.
-fn layouts_ok(source: &[u8], target: &[u8]) -> bool
-    ensures { λ r. ⌜ r ≡ (layoutOK (now (source .entry)) && layoutOK (now (target .entry))) ⌝ }
-{
-    frame::layout_ok(source) & frame::layout_ok(target)
+    frame::code_ok(source_format) & frame::code_ok(target_format) & frame::code_ok(sampler)
 }
 
 // Questions 1 to 7: what a call names.
@@ -57,19 +36,19 @@ fn settings_answer(
     ensures { λ r. ⌜ convertedMeans r ≡ settingsAnswer
         (convertSettings shape «target_size» «target_format» sampler (now («source_layout» .entry)) (now («target_layout» .entry)) rotation) ⌝ }
 {
-    if !size_ok(shape.size) {
+    if !frame::size_ok(shape.size) {
         return Converted::Refused(Refusal::FaceSize);
     }
-    if !size_ok(target_size) {
+    if !frame::size_ok(target_size) {
         return Converted::Refused(Refusal::TargetSize);
     }
-    if !depth_ok(shape.depth) {
+    if !frame::depth_ok(shape.depth) {
         return Converted::Refused(Refusal::Depth);
     }
     if !codes_ok(shape.format, target_format, sampler) {
         return Converted::Refused(Refusal::Code);
     }
-    if !layouts_ok(source_layout, target_layout) {
+    if !frame::layouts_ok(source_layout, target_layout) {
         return Converted::Refused(Refusal::Layout);
     }
     if !rotation::in_range(rotation) {

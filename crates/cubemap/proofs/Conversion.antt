@@ -18,13 +18,13 @@ use Rattle.cubemap.specs.PlaceToRay.{times, rayOf}
 use Rattle.cubemap.specs.Rotations.{sumOfSquares, rotated}
 use Rattle.cubemap.specs.RayToPlace.{locate}
 use Rattle.cubemap.specs.Samplers.{sampleFrom}
-use Rattle.cubemap.specs.Checks.{ConvertSettings, targetShape, lengthOK, samplesOK}
+use Rattle.cubemap.specs.Checks.{ConvertSettings, targetShape, samplesOK}
 use Rattle.cubemap.specs.Outcomes.{result, ifAccepted, lookUpValues, lookUpResult}
 use Rattle.cubemap.specs.Outcomes.{sourcePosition, valueAt, convertedSample, convertedBytes, convertAnswer}
 use Rattle.cubemap.proofs.FaceCoordinates.{Coordinates, coordinates}
 use Rattle.cubemap.proofs.Locate.{OnFace, locate-on-face, locate-times, middleOf, locate-own-times}
 use Rattle.cubemap.proofs.Layouts.{LayoutHolds, layout-holds}
-use Rattle.cubemap.proofs.Framed.{planeOf, samples-number, bytes-number, length-is, place-below}
+use Rattle.cubemap.proofs.Framed.{plane-bytes, planeOf, place-below}
 use Rattle.cubemap.proofs.Passed.{size-range, ConvertPassed, convert-passed, look-up-accepted}
 use Rattle.cubemap.proofs.Samplers.{value-within, value-own}
 use Rattle.cubemap.proofs.Rotations.{sum-positive, multiple, rotated-multiple, LeadsTo, leads-only}
@@ -57,9 +57,6 @@ unfolding convertedSample valueAt sourcePosition
 converted-value s source P = refl
 
 -- ---- a conversion that has passed its checks: the lengths of its frames
-
-plane-bytes : (z : Shape) (n : ℕ) → T (lengthOK z n) → n ≡ 2 * planeSamples (z .size)
-plane-bytes z n t = omega (arith, length-is z n t, bytes-number z, samples-number z)
 
 pub source-bytes : {s : ConvertSettings} {n m : ℕ} {source : List ℕ} → ConvertPassed s n m source → n ≡ 2 * planeSamples (s .sourceShape .size)
 source-bytes {s} {n} c = plane-bytes (s .sourceShape) n (c .source-length)

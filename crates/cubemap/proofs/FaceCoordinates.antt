@@ -21,6 +21,14 @@ fromCentre-inside A m h = go (difference (2 * m + 1) A)
     go (below q e) = rw e (omega arith)
     go (above q e) = rw e (omega arith)
 
+-- left of the middle, and in it
+pub fromCentre-left : (A m r : ℕ) → 2 * m + 1 + r ≡ A → natAbs (fromCentre A m) ≡ r
+fromCentre-left A m r h = go (difference (2 * m + 1) A)
+  where
+    go : Difference (2 * m + 1) A → natAbs (pos (2 * m + 1) -ℤ pos A) ≡ r
+    go (below q e) = rw e (omega arith)
+    go (above q e) = rw e (omega arith)
+
 pub fromCentre-apart : (A m n : ℕ) → fromCentre A m ≡ fromCentre A n → m ≡ n
 fromCentre-apart A m n e = omega (arith, difference-inj (2 * m + 1) (2 * n + 1) A e)
 

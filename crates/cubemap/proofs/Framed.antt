@@ -118,6 +118,9 @@ pub length-is : (z : Shape) (n : ℕ) → T (lengthOK z n) → n ≡ bytesIn z
 unfolding lengthOK
 length-is z n t = eqb→eq n (bytesIn z) t
 
+pub plane-bytes : (z : Shape) (n : ℕ) → T (lengthOK z n) → n ≡ 2 * planeSamples (z .size)
+plane-bytes z n t = omega (arith, length-is z n t, bytes-number z, samples-number z)
+
 -- ---- checks 10 and 11
 
 pub samples-test : (z : Shape) (bytes : List ℕ) → samplesOK z bytes ≡ allBelow (sampleOK z bytes) (samplesIn z)

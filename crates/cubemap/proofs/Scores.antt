@@ -1,23 +1,63 @@
--- What a score depends on: of each frame what the checks see, and the error sum, which stays where both frames' samples move alike to places of the
--- same weight.
-use mathlib.Core.Path.{_≡_, ap₂, _∙_}
-use mathlib.Core.Bool.{_&&_}
+-- A score: its sums row by row, its checks one by one, and its result by the answer. And what it depends on: of each frame what the checks see, and the
+-- error sum, which stays where both frames' samples move alike to places of the same weight.
+use mathlib.Core.Path.{_≡_, refl, sym, _∙_, ap, ap₂, subst}
+use mathlib.Core.Bool.{_&&_, cond}
 use mathlib.Core.List.{List, [], _∷_}
-use Prim.Native.Nat.{ℕ, _*_}
+use Prim.Native.Nat.{ℕ, _+_, _*_, _≤_}
+use native.Mathlib.Nat.{mul-le-mul}
+use native.Mathlib.Omega.{arith}
+use lib.Dec.{T}
+use lib.IntN.{ℤ, pos, _-ℤ_, _*ℤ_}
 use lib.ListN.{length}
+use Rattle.arithmetic.specs.Sums.{sumBelow}
+use Rattle.arithmetic.proofs.Sizes.{square, difference-small}
+use Rattle.arithmetic.proofs.Sums.{sum-swap, sum-same}
 use Rattle.cubemap.specs.declared.Format.{Format}
 use Rattle.cubemap.specs.declared.Place.{Place}
+use Rattle.cubemap.specs.declared.Refusal.{Refusal}
 use Rattle.cubemap.specs.declared.Shape.{Shape}
-use Rattle.cubemap.specs.Interface.{formatOf}
-use Rattle.cubemap.specs.Frames.{IsPlace, sampleAtPlace}
-use Rattle.cubemap.specs.Score.{weight, squaredDifference, errorSum, weightSum}
-use Rattle.cubemap.specs.Checks.{ScoreSettings, scoreSettings, check, firstFailed, sizeOK, depthOK, codeOK, layoutOK, lengthOK, samplesOK, lowestBeyond}
-use Rattle.cubemap.specs.Checks.{scoreChecks}
-use Rattle.cubemap.specs.Outcomes.{ifAccepted, scoreValues, scoreResult}
-use Rattle.cubemap.proofs.Places.{OneToOne, over-cong, over-step}
+use Rattle.cubemap.specs.Interface.{formatOf, Answer, accepted, isAccepted}
+use Rattle.cubemap.specs.Frames.{place, IsPlace, sampleAtPlace}
+use Rattle.cubemap.specs.Score.{weight, difference, squaredDifference, overPlaces, errorSum, weightSum}
+use Rattle.cubemap.specs.Checks.{ScoreSettings, scoreSettings, Check, check, samplesCheck, firstFailed, sizeOK, depthOK, codeOK, layoutOK, lengthOK}
+use Rattle.cubemap.specs.Checks.{samplesOK, lowestBeyond, scoreChecks}
+use Rattle.cubemap.specs.Outcomes.{result, refusal, refused, ifAccepted, scoreValues, scoreResult}
+use Rattle.cubemap.proofs.Answers.{not-accepted}
+use Rattle.cubemap.proofs.Passed.{Remaining, ScorePassed, score-passed}
+use Rattle.cubemap.proofs.Places.{OneToOne, same-places, over-cong, over-step}
 use Rattle.cubemap.proofs.Weights.{Level, weight-symmetric}
 
--- ---- the error sum
+-- ---- one squared difference
+
+pub squared-is : (x y : ℕ) → (pos x -ℤ pos y) *ℤ (pos x -ℤ pos y) ≡ pos (squaredDifference x y)
+unfolding squaredDifference
+squared-is x y = square (pos x -ℤ pos y)
+
+pub squared-bounded : (B x y : ℕ) → x ≤ B → y ≤ B → squaredDifference x y ≤ B * B
+unfolding squaredDifference
+squared-bounded B x y h k =
+    let d : difference x y ≤ B = difference-small x y B (omega arith) (omega arith) in
+    mul-le-mul d d
+
+-- ---- the sums, row by row
+
+module _ (format : Format) (A : ℕ) where
+  -- of a row on all six faces
+  abbrev pub rowErrors : (Place → ℕ) → (Place → ℕ) → ℕ → ℕ
+  rowErrors first second n =
+      sumBelow (λ f. sumBelow (λ m. weight format A m n * squaredDifference (first (place f m n)) (second (place f m n))) A) 6
+
+  pub errors-by-rows : (first second : Place → ℕ) → errorSum format A first second ≡ sumBelow (rowErrors first second) A
+  unfolding errorSum overPlaces
+  errors-by-rows first second =
+      sum-swap 6 A (λ f n. sumBelow (λ m. weight format A m n * squaredDifference (first (place f m n)) (second (place f m n))) A)
+
+  -- the six faces have the same weights
+  pub weights-by-rows : weightSum format A ≡ 6 * sumBelow (λ n. sumBelow (λ m. weight format A m n) A) A
+  unfolding weightSum overPlaces
+  weights-by-rows = sum-same 6 (sumBelow (λ n. sumBelow (λ m. weight format A m n) A) A)
+
+-- ---- the error sum of other frames
 
 module _ (format : Format) (A : ℕ) (to back : Place → Place) (m : OneToOne A to back) (level : (P : Place) → IsPlace A P → Level A P (to P)) where
   -- where each frame has at P what it had at `to P`
@@ -32,7 +72,55 @@ module _ (format : Format) (A : ℕ) (to back : Place → Place) (m : OneToOne A
       term : (Place → ℕ) → (Place → ℕ) → Place → ℕ
       term f g P = weight format A (P .column) (P .row) * squaredDifference (f P) (g P)
 
--- ---- the answer
+-- frames with the same samples at each place
+pub error-cong : (format : Format) (A : ℕ) (first second first′ second′ : Place → ℕ) → ((P : Place) → IsPlace A P → first′ P ≡ first P)
+    → ((P : Place) → IsPlace A P → second′ P ≡ second P) → errorSum format A first′ second′ ≡ errorSum format A first second
+error-cong format A = error-moved format A (λ P. P) (λ Q. Q) (same-places A) (λ P p w s. refl)
+
+-- ---- the checks, and the result by the answer
+
+-- the error sum that a call names
+abbrev pub errorsOf : ScoreSettings → List ℕ → List ℕ → ℕ
+errorsOf s x y = errorSum (formatOf (s .shape .format)) (s .shape .size)
+    (sampleAtPlace x (s .shape .size) (s .firstLayout)) (sampleAtPlace y (s .shape .size) (s .secondLayout))
+
+module _ (s : ScoreSettings) (first second : List ℕ) where
+  abbrev pub scoreAnswer : Answer
+  scoreAnswer = firstFailed (scoreChecks s first second)
+
+  abbrev pub checksOfScore : List Check
+  checksOfScore =
+      check 1 (sizeOK (s .shape .size))
+      ∷ check 3 (depthOK (s .shape .depth))
+      ∷ check 4 (codeOK (s .shape .format))
+      ∷ check 5 (layoutOK (s .firstLayout) && layoutOK (s .secondLayout))
+      ∷ check 8 (lengthOK (s .shape) (length first))
+      ∷ check 9 (lengthOK (s .shape) (length second))
+      ∷ samplesCheck 10 (s .shape) first
+      ∷ samplesCheck 11 (s .shape) second
+      ∷ []
+
+  pub score-remain : Remaining checksOfScore scoreAnswer
+  unfolding scoreChecks
+  score-remain = record { decide = refl }
+
+  pub score-refused : (q : Refusal) → refusal q ≡ scoreAnswer → refused q ≡ scoreResult s first second
+  unfolding scoreResult
+  score-refused q e =
+      ap (λ b. result (refusal q) (cond b values [])) (sym (not-accepted q)) ∙ ap (λ a. ifAccepted a values) e
+    where
+      values : List ℤ
+      values = scoreValues (errorsOf s first second) (weightSum (formatOf (s .shape .format)) (s .shape .size))
+
+  pub score-accepted : accepted ≡ scoreAnswer
+      → result accepted (scoreValues (errorsOf s first second) (weightSum (formatOf (s .shape .format)) (s .shape .size))) ≡ scoreResult s first second
+  unfolding scoreResult
+  score-accepted e = ap (λ a. ifAccepted a (scoreValues (errorsOf s first second) (weightSum (formatOf (s .shape .format)) (s .shape .size)))) e
+
+  pub score-answer-passed : accepted ≡ scoreAnswer → ScorePassed s first second
+  score-answer-passed e = score-passed s first second (subst (λ a. T (isAccepted a)) e tt)
+
+-- ---- two scores with the same result
 
 -- the checks see the same of a frame in the layout L with the bytes x, and of one in the layout L′ with the bytes x′
 pub record SameToChecks (z : Shape) (L L′ x x′ : List ℕ) : Type 0 where
@@ -40,10 +128,6 @@ pub record SameToChecks (z : Shape) (L L′ x x′ : List ℕ) : Type 0 where
   pub long : lengthOK z (length x) ≡ lengthOK z (length x′)
   pub samples : samplesOK z x ≡ samplesOK z x′
   pub beyond : lowestBeyond z x ≡ lowestBeyond z x′
-
-abbrev errorsOf : ScoreSettings → List ℕ → List ℕ → ℕ
-errorsOf s x y = errorSum (formatOf (s .shape .format)) (s .shape .size)
-    (sampleAtPlace x (s .shape .size) (s .firstLayout)) (sampleAtPlace y (s .shape .size) (s .secondLayout))
 
 pub score-same : {z : Shape} {L L′ M M′ x x′ y y′ : List ℕ} → SameToChecks z L L′ x x′ → SameToChecks z M M′ y y′
     → errorsOf (scoreSettings z L M) x y ≡ errorsOf (scoreSettings z L′ M′) x′ y′

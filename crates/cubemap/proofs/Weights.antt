@@ -7,7 +7,7 @@ use mathlib.Core.Bool.{Bool, true, false}
 use Prim.Native.Nat.{ℕ, suc, _+_, _*_, _-_, _^_, _≤_, _<_}
 use native.Mathlib.Decide.{ℕ-discrete}
 use native.Mathlib.Nat.{mul-le-mul, mul-le-mul-left, mul-lt-mul-of-pos-right, one-mul, pow-le-pow-left, one-le-pow, pow-suc, pow-zero}
-use native.Mathlib.Nat.{lt-of-not-le, not-le-of-lt, lt-of-lt-of-le}
+use native.Mathlib.Nat.{le-refl, le-trans, lt-of-not-le, not-le-of-lt, lt-of-lt-of-le}
 use native.Mathlib.Omega.{arith}
 use lib.Dec.{leb, leb→le, le→leb}
 use lib.IntN.{ℤ, pos, negℤ, natAbs, negℤ-negℤ}
@@ -43,10 +43,10 @@ pub record IsWeight (A p q W : ℕ) : Type 0 where
   pub passes : Passes A p q W
   pub most : (U : ℕ) → Passes A p q U → U ≤ W
 
-cube : (a : ℕ) → a ^ 3 ≡ a * a * a
+pub cube : (a : ℕ) → a ^ 3 ≡ a * a * a
 cube a = pow-suc a 2 ∙ ap (λ m. m * a) (pow-suc a 1 ∙ ap (λ m. m * a) (pow-suc a 0 ∙ ap (λ m. m * a) (pow-zero a) ∙ one-mul a))
 
-sixth : (A : ℕ) → (A * A) ^ 3 ≡ A ^ 6
+pub sixth : (A : ℕ) → (A * A) ^ 3 ≡ A ^ 6
 sixth A =
     cube (A * A)
     ∙ pos-inj (A * A * (A * A) * (A * A)) (A * A * A * A * A * A)
@@ -54,7 +54,7 @@ sixth A =
     ∙ sym (pow-suc A 5 ∙ ap (λ m. m * A) (pow-suc A 4 ∙ ap (λ m. m * A) (pow-suc A 3 ∙ ap (λ m. m * A) (cube A))))
 
 -- no number above 65,536 passes
-passes-bound : (A p q U : ℕ) → 1 ≤ A → Passes A p q U → U ≤ 65536
+pub passes-bound : (A p q U : ℕ) → 1 ≤ A → Passes A p q U → U ≤ 65536
 passes-bound A p q U hA h = at-most (lt-of-not-le (λ l.
     let s : 65536 * 65536 < U * U = lt-of-lt-of-le (omega arith) (mul-le-mul {n₁ = 65537} {m₁ = 65537} l l) in
     let a : 0 < A ^ 6 = one-le-pow 6 A hA in
@@ -87,10 +87,30 @@ weightOf-only A p q W hA g =
     let y = w .most W (g .passes) in
     omega arith
 
+-- a number that passes, where the next one does not
+pub weight-between : (A p q W : ℕ) → Passes A p q W → (Passes A p q (W + 1) → ⊥) → IsWeight A p q W
+weight-between A p q W h over = record { passes = h; most = λ U u. below U (lt-of-not-le (λ l. over (fewer U l u))) }
+  where
+    K³ : ℕ
+    K³ = lengthSquared A p q ^ 3
+
+    fewer : (U : ℕ) → W + 1 ≤ U → Passes A p q U → Passes A p q (W + 1)
+    fewer U l u = le-trans (mul-le-mul {m₁ = K³} {m₂ = K³} (mul-le-mul l l) (le-refl K³)) u
+
+    below : (U : ℕ) → U < W + 1 → U ≤ W
+    below U l = omega arith
+
 -- of a place
 pub weight-is : (format : Format) (A m n : ℕ) → 1 ≤ A → IsWeight A (natAbs (fromCentre A m)) (natAbs (fromCentre A n)) (weight format A m n)
 unfolding weight
 weight-is format A m n hA = weightOf-is A (natAbs (fromCentre A m)) (natAbs (fromCentre A n)) hA
+
+pub weight-only : (format : Format) (A m n W : ℕ) → 1 ≤ A → IsWeight A (natAbs (fromCentre A m)) (natAbs (fromCentre A n)) W → weight format A m n ≡ W
+unfolding weight
+weight-only format A m n W hA g = weightOf-only A (natAbs (fromCentre A m)) (natAbs (fromCentre A n)) W hA g
+
+pub weight-most : (format : Format) (A m n : ℕ) → 1 ≤ A → weight format A m n ≤ 65536
+weight-most format A m n hA = passes-bound A (natAbs (fromCentre A m)) (natAbs (fromCentre A n)) (weight format A m n) hA (weight-is format A m n hA .passes)
 
 -- ---- symmetric, for every format
 

@@ -63,6 +63,20 @@ pub record ScoreCall : Type 0 where
   pub secondAfter : List ℕ
   pub bufferAfter : List ℕ
 
+abbrev pub scoreCall : ScoreSettings → List ℕ → List ℕ → List ℕ → ℕ → List ℕ → List ℕ → List ℕ → List ℕ → List ℕ → ScoreCall
+scoreCall s first second buffer returned firstLayoutAfter secondLayoutAfter firstAfter secondAfter bufferAfter = record {
+  settings = s;
+  first = first;
+  second = second;
+  buffer = buffer;
+  returned = returned;
+  firstLayoutAfter = firstLayoutAfter;
+  secondLayoutAfter = secondLayoutAfter;
+  firstAfter = firstAfter;
+  secondAfter = secondAfter;
+  bufferAfter = bufferAfter;
+}
+
 pub record ScorePromise (c : ScoreCall) : Type 0 where
   pub gives : Gives (scoreOutcome (c .settings) (c .first) (c .second) (c .buffer)) (c .returned) (c .bufferAfter)
   pub first-stays : c .firstAfter ≡ c .first

@@ -1,5 +1,6 @@
-// Frames in code: layouts, samples, and what questions 5 and 8 to 11 ask of buffers.
+// Frames in code: what questions 1 to 5 ask of the numbers and layouts of a frame, and 8 to 11 of its bytes; samples; layouts.
 ghost use mathlib.Core.Path.{_≡_};
+ghost use mathlib.Core.Bool.{_&&_};
 ghost use Prim.Native.Nat.{_+_, _*_, _^_, _≤_, _<_};
 ghost use lib.Dec.{T};
 ghost use lib.Seq.{sets};
@@ -7,9 +8,32 @@ ghost use lib.ListN.{length};
 ghost use Rattle.cubemap.specs.Interface.{littleEndian};
 ghost use Rattle.cubemap.specs.Frames.{samplesIn, bytesIn, sampleAt, layoutBytes, faceIn, quarterTurnsIn, slotOf};
 ghost use Rattle.cubemap.proofs.Layouts.{slotsWith, facesOnce, turnsFew};
-ghost use Rattle.cubemap.specs.Checks.{depthOK, layoutOK, lengthOK, samplesOK, lowestBeyond};
+ghost use Rattle.cubemap.specs.Checks.{sizeOK, depthOK, codeOK, layoutOK, lengthOK, samplesOK, lowestBeyond};
 use cubemap::Layout;
 use cubemap::Shape;
+
+// ---- the numbers of a frame
+
+// Questions 1 and 2, of one face size.
+pub fn size_ok(size: u64) -> bool
+    ensures { λ r. ⌜ r ≡ sizeOK size ⌝ }
+{
+    (1 <= size) & (size <= 512)
+}
+
+// Question 3.
+pub fn depth_ok(depth: u64) -> bool
+    ensures { λ r. ⌜ r ≡ depthOK depth ⌝ }
+{
+    (8 <= depth) & (depth <= 12)
+}
+
+// Question 4, of one code.
+pub fn code_ok(code: u64) -> bool
+    ensures { λ r. ⌜ r ≡ codeOK code ⌝ }
+{
+    code <= 1
+}
 
 // ---- samples
 
@@ -152,6 +176,13 @@ pub fn layout_ok(layout: &[u8]) -> bool
         return false;
     }
     faces_ok(layout) & turns_ok(layout)
+}
+
+// Question 5, of two layouts.
+pub fn layouts_ok(first: &[u8], second: &[u8]) -> bool
+    ensures { λ r. ⌜ r ≡ (layoutOK (now (first .entry)) && layoutOK (now (second .entry))) ⌝ }
+{
+    layout_ok(first) & layout_ok(second)
 }
 
 // The layout of 12 bytes, taken apart.

@@ -69,7 +69,7 @@ pub fn scale(format: Format, size: u64) -> u64
 }
 
 // 2m + 1 − A, of a column or a row.
-fn from_centre(size: u64, m: u64) -> i64
+pub fn from_centre(size: u64, m: u64) -> i64
     requires { ⌜ (size ≤ 512) × (m < size) ⌝ }
     ensures { λ r. ⌜ r ≡ paper.fromCentre size m ⌝ }
 {

@@ -1,8 +1,8 @@
 // The calls that C makes: numbers and lent buffers go in, a code and bytes come out. Each is thin over the function that does the work.
 ghost use Rattle.cubemap.specs.PlaceToRay.{ray};
 ghost use Rattle.cubemap.specs.Frames.{shapeOf};
-ghost use Rattle.cubemap.specs.Checks.{convertSettings};
-ghost use Rattle.cubemap.specs.Promises.{convertCall, ConvertPromise, FoldPromise, EqualPromise, LookUpPromise};
+ghost use Rattle.cubemap.specs.Checks.{convertSettings, scoreSettings};
+ghost use Rattle.cubemap.specs.Promises.{convertCall, ConvertPromise, scoreCall, ScorePromise, FoldPromise, EqualPromise, LookUpPromise};
 ghost use Rattle.cubemap.specs.Rotations.{rotation};
 use cubemap::Compared;
 use cubemap::Converted;
@@ -10,6 +10,7 @@ use cubemap::Folded;
 use cubemap::LookedUp;
 use cubemap::Ray;
 use cubemap::Rotation;
+use cubemap::Scored;
 use cubemap::Shape;
 
 // Convert a frame through a turn: the target's bytes.
@@ -61,6 +62,38 @@ pub extern "C" fn welchodrys_convert(
     match converted {
         Converted::Accepted => 0,
         Converted::Refused(r) => answers::refusal_code(r),
+    }
+}
+
+// Score two frames: the weighted error sum, then the sum of the weights.
+#[no_mangle]
+pub extern "C" fn welchodrys_score(
+    size: u64,
+    depth: u64,
+    format: u64,
+    first_layout: &[u8],
+    second_layout: &[u8],
+    first: &[u8],
+    second: &[u8],
+    answer: &mut [u8],
+) -> u64
+    ensures { λ r. ⌜ ScorePromise (scoreCall
+        (scoreSettings (shapeOf size depth format) (now («first_layout» .entry)) (now («second_layout» .entry)))
+        (now (first .entry)) (now (second .entry)) (now (answer .entry)) r
+        (now («first_layout» .exit)) (now («second_layout» .exit)) (now (first .exit)) (now (second .exit)) (now (answer .exit))) ⌝ }
+{
+    let shape = Shape {
+        size: size,
+        depth: depth,
+        format: format,
+    };
+    let scored = scoring::score(shape, first_layout, second_layout, first, second);
+    match scored {
+        Scored::Sums { errors, weights } => {
+            answers::put_sums(answer, errors, weights);
+            0
+        }
+        Scored::Refused(r) => answers::refusal_code(r),
     }
 }
 

@@ -17,20 +17,20 @@ lent-requires c κs = search needs
 lent-requires-2 : tie.Need-lent-requires-2
 lent-requires-2 c κs = search needs
 
-slice-reshare-prefix-convert : tie.Need-slice-reshare-prefix-convert
-slice-reshare-prefix-convert c = search needs
+slice-reshare-prefix-with-layouts : tie.Need-slice-reshare-prefix-with-layouts
+slice-reshare-prefix-with-layouts c = search needs
 
-slice-aggregate-convert : tie.Need-slice-aggregate-convert
-slice-aggregate-convert c = simp length-take (omega arith)
+slice-aggregate-with-layouts : tie.Need-slice-aggregate-with-layouts
+slice-aggregate-with-layouts c = simp length-take (omega arith)
 
-slice-relend-prefix-convert : tie.Need-slice-relend-prefix-convert
-slice-relend-prefix-convert c = search needs
+slice-relend-prefix-with-layouts : tie.Need-slice-relend-prefix-with-layouts
+slice-relend-prefix-with-layouts c = search needs
 
-slice-aggregate-convert-2 : tie.Need-slice-aggregate-convert-2
-slice-aggregate-convert-2 c = simp length-take (omega arith)
+slice-aggregate-with-layouts-2 : tie.Need-slice-aggregate-with-layouts-2
+slice-aggregate-with-layouts-2 c = simp length-take (omega arith)
 
-convert-requires : tie.Need-convert-requires
-convert-requires c κs = search needs
+with-layouts-requires : tie.Need-with-layouts-requires
+with-layouts-requires c κs = search needs
 
 same-length : tie.Need-same-length
 same-length c = search needs
@@ -49,11 +49,11 @@ run-spec =
     fill-source-requires
     lent-requires
     lent-requires-2
-    slice-reshare-prefix-convert
-    slice-aggregate-convert
-    slice-relend-prefix-convert
-    slice-aggregate-convert-2
-    convert-requires
+    slice-reshare-prefix-with-layouts
+    slice-aggregate-with-layouts
+    slice-relend-prefix-with-layouts
+    slice-aggregate-with-layouts-2
+    with-layouts-requires
     same-length
     same-length-2
     returns)

@@ -133,9 +133,11 @@ fn cube_rotations() -> impl Iterator<Item = Case> {
     })
 }
 
-/// Each damage, from ACP to CMP, cubic.
+/// Each damage, to a smaller target and to one of the same size, from ACP to CMP, cubic.
 fn damages() -> impl Iterator<Item = Case> {
-    DAMAGES.into_iter().map(|damage| Case { layouts: [2, 1], damage, ..PLAIN }.with_mix(5))
+    [2, 3].into_iter().flat_map(|target_size| {
+        DAMAGES.into_iter().map(move |damage| Case { target_size, layouts: [2, 1], damage, ..PLAIN }.with_mix(5))
+    })
 }
 
 /// The code 2 for each of the three, and the turn of four zeros.

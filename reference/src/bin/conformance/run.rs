@@ -1,7 +1,7 @@
-//! Makes a call of the list and writes its line.
+//! Makes a call of the list and the score behind it, and writes their line.
 
 use crate::cases::{Case, Damage, LAYOUTS};
-use reference::calls::{convert, ConvertArguments};
+use reference::calls::{convert, score, ConvertArguments, ScoreArguments};
 
 /// No frame is lent more bytes than one of face size 512 has.
 const MOST_BYTES: u64 = 12 * 512 * 512;
@@ -9,25 +9,26 @@ const MOST_BYTES: u64 = 12 * 512 * 512;
 /// Every byte of the target before the call.
 const BEFORE: u8 = 165;
 
-/// Sizes, depth, formats, sampler, numbers of the layouts, turn, number of the damage; then the number, the index and the digest.
-/// All are decimal, with single spaces.
+/// Sizes, depth, formats, sampler, numbers of the layouts, turn, number of the damage; then the number, the index and the digest;
+/// then the score's number, its index and its two sums. All are decimal, with single spaces.
 pub fn line(case: &Case) -> String {
-    let (code, target) = outcome(case);
+    let (source, mut target) = (source(case), target(case));
+    let code = converted(case, &source, &mut target);
+    let (score_code, [errors, weights]) = scored(case, &source, &target);
     let settings =
         [case.source_size, case.target_size, case.depth, case.source_format, case.target_format, case.sampler].map(decimal);
     let (layouts, rotation) = (case.layouts.map(decimal), case.rotation.map(decimal));
-    let rest = [case.damage as u64, code % 256, code / 256, digest(&target)].map(decimal);
-    [&settings[..], &layouts[..], &rotation[..], &rest[..]].concat().join(" ")
+    let outcome = [case.damage as u64, code % 256, code / 256, digest(&target)].map(decimal);
+    let score = [score_code % 256, score_code / 256, errors, weights].map(decimal);
+    [&settings[..], &layouts[..], &rotation[..], &outcome[..], &score[..]].concat().join(" ")
 }
 
 fn decimal(number: impl ToString) -> String {
     number.to_string()
 }
 
-/// What the call returns, and the target afterwards.
-fn outcome(case: &Case) -> (u64, Vec<u8>) {
-    let source = source(case);
-    let mut target = target(case);
+/// What the conversion returns.
+fn converted(case: &Case, source: &[u8], target: &mut [u8]) -> u64 {
     let arguments = ConvertArguments {
         source_size: case.source_size,
         target_size: case.target_size,
@@ -38,10 +39,26 @@ fn outcome(case: &Case) -> (u64, Vec<u8>) {
         source_layout: LAYOUTS[case.layouts[0]],
         target_layout: LAYOUTS[case.layouts[1]],
         rotation: case.rotation,
-        source: &source,
+        source,
     };
-    let code = convert(arguments, &mut target);
-    (code, target)
+    convert(arguments, target)
+}
+
+/// What the score returns that is made right after the conversion, of the source with the target as it is then, with the source's
+/// size and format; and the two numbers in the answer buffer afterwards, whose 16 bytes are 0 before.
+fn scored(case: &Case, source: &[u8], target: &[u8]) -> (u64, [u64; 2]) {
+    let arguments = ScoreArguments {
+        size: case.source_size,
+        depth: case.depth,
+        format: case.source_format,
+        first_layout: LAYOUTS[case.layouts[0]],
+        second_layout: LAYOUTS[case.layouts[1]],
+        first: source,
+        second: target,
+    };
+    let mut answer = [[0; 8]; 2];
+    let code = score(arguments, answer.as_flattened_mut());
+    (code, answer.map(u64::from_le_bytes))
 }
 
 /// A frame of face size A is lent 12·A² bytes, but no more than the largest frame has.

@@ -1,9 +1,10 @@
 //! Makes a call of the library and of the reference, and compares the code and every byte.
 
 use crate::call::Call;
-use crate::convert::ConvertCall;
 use crate::coverage::Coverage;
+use crate::frame_call::{FrameCall, LONGEST_FRAME};
 use crate::lent::{self, Lent};
+use crate::score::ScoreCall;
 use reference::random::Random;
 use std::ffi::c_int;
 use std::sync::Mutex;
@@ -17,14 +18,14 @@ const MOST_BYTES: usize = 8_192;
 /// The program stops after so many differences.
 const ENOUGH: u32 = 10;
 
-/// So many bytes of a frame are shown.
+/// So many bytes of a buffer are shown.
 const SHOWN: usize = 12 * 9 * 9;
 
 enum UnderWay {
     /// A call with the length of its answer.
     Answering(Call, usize),
-    /// A conversion in words.
-    Converting(String),
+    /// A call that is lent frames, in words.
+    WithFrames(String),
 }
 
 /// The call under way, for the message at a fault.
@@ -33,7 +34,7 @@ static UNDER_WAY: Mutex<Option<UnderWay>> = Mutex::new(None);
 extern "C" fn report_fault(_signal: c_int) {
     match UNDER_WAY.try_lock().as_deref() {
         Ok(Some(UnderWay::Answering(call, length))) => println!("memory fault in {call:?}, answer length {length}"),
-        Ok(Some(UnderWay::Converting(call))) => println!("memory fault in {call}"),
+        Ok(Some(UnderWay::WithFrames(call))) => println!("memory fault in {call}"),
         _ => println!("memory fault outside every call"),
     }
     std::process::exit(1);
@@ -43,19 +44,40 @@ fn begin(call: UnderWay) {
     *UNDER_WAY.lock().expect("no thread failed") = Some(call);
 }
 
+/// How the buffers of a call that is lent frames are lent.
+#[derive(Clone, Copy, Debug, PartialEq, Eq)]
+pub enum Lending {
+    /// Each in front of a forbidden page of its own.
+    Apart,
+    /// The same, but with NULL for those that are empty.
+    NullWhereEmpty,
+    /// The same, but with one for those that are only read and hold the same bytes.
+    OneWhereSame,
+}
+
+impl Lending {
+    fn words(self) -> &'static str {
+        match self {
+            Lending::Apart => "",
+            Lending::NullWhereEmpty => ", NULL where empty",
+            Lending::OneWhereSame => ", one buffer where two hold the same",
+        }
+    }
+}
+
 pub struct Comparison {
     pub random: Random,
     pub coverage: Coverage,
     answer: Lent,
-    /// What a conversion is lent, in the order of `ConvertCall::BUFFERS`.
-    buffers: [Lent; 4],
+    /// What the calls that are lent frames are lent: two layouts, two frames, and an answer buffer where there is one.
+    buffers: [Lent; 5],
     differences: u32,
 }
 
 impl Comparison {
     pub fn new(random: Random) -> Comparison {
         lent::at_fault(report_fault);
-        let longest = [MOST_BYTES, MOST_BYTES, ConvertCall::LONGEST_FRAME, ConvertCall::LONGEST_FRAME];
+        let longest = [MOST_BYTES, MOST_BYTES, LONGEST_FRAME, LONGEST_FRAME, MOST_BYTES];
         let buffers = longest.map(|bytes| Lent::new(FRONT + bytes));
         Comparison { random, coverage: Coverage::default(), answer: Lent::new(FRONT + MOST_BYTES), buffers, differences: 0 }
     }
@@ -106,40 +128,64 @@ impl Comparison {
         self.coverage.note(&call, expected_code % 256, length);
     }
 
-    /// Compares a conversion; with an empty buffer both with NULL and with a pointer.
-    pub fn compare_conversion(&mut self, call: &ConvertCall) {
-        self.compare_conversion_at(call, false);
-        if call.buffers().iter().any(|buffer| buffer.is_empty()) {
-            self.compare_conversion_at(call, true);
+    /// Compares a call that is lent frames, in each way of lending that makes a difference. Returns what the library left in the
+    /// last buffer.
+    pub fn compare_frames<const COUNT: usize, Framed: FrameCall<COUNT>>(&mut self, call: &Framed) -> Vec<u8> {
+        let buffers = call.buffers();
+        let written = self.compare_lending(call, Lending::Apart);
+        if buffers.iter().any(|buffer| buffer.is_empty()) {
+            self.compare_lending(call, Lending::NullWhereEmpty);
         }
+        if (0..COUNT).any(|position| first_same(&buffers, position) < position) {
+            self.compare_lending(call, Lending::OneWhereSame);
+        }
+        written
     }
 
-    fn compare_conversion_at(&mut self, call: &ConvertCall, null: bool) {
-        let mut expected = call.buffers().map(|buffer| self.with_front(buffer));
-        let mut pointers = [std::ptr::null_mut(); 4];
-        for ((lent, before), pointer) in self.buffers.iter_mut().zip(&expected).zip(&mut pointers) {
+    fn compare_lending<const COUNT: usize, Framed: FrameCall<COUNT>>(&mut self, call: &Framed, lending: Lending) -> Vec<u8> {
+        let buffers = call.buffers();
+        let mut expected = buffers.map(|buffer| self.with_front(buffer));
+        let mut pointers = [std::ptr::null_mut(); COUNT];
+        for (position, (lent, before)) in self.buffers.iter_mut().zip(&expected).enumerate() {
             let memory = lent.last(before.len());
             memory.copy_from_slice(before);
-            if !(null && before.len() == FRONT) {
-                *pointer = memory[FRONT..].as_mut_ptr();
-            }
+            pointers[position] = memory[FRONT..].as_mut_ptr();
         }
-        let expected_code = call.of_reference(&mut expected[ConvertCall::TARGET][FRONT..]);
-        begin(UnderWay::Converting(call.to_string()));
-        // SAFETY: each pointer points at the bytes of its buffer behind the front; that of an empty one may be NULL.
+        pointers = match lending {
+            Lending::Apart => pointers,
+            Lending::NullWhereEmpty => {
+                std::array::from_fn(|at| if buffers[at].is_empty() { std::ptr::null_mut() } else { pointers[at] })
+            }
+            Lending::OneWhereSame => std::array::from_fn(|at| pointers[first_same(&buffers, at)]),
+        };
+        let expected_code = call.of_reference(&mut expected[COUNT - 1][FRONT..]);
+        begin(UnderWay::WithFrames(call.to_string()));
+        // SAFETY: each pointer points at the bytes of its buffer behind the front, or at the same bytes of another one where both
+        // are only read; that of an empty one may be NULL.
         let code = unsafe { call.of_library(pointers) };
         let mut words = Vec::new();
-        for ((lent, expected), name) in self.buffers.iter_mut().zip(&expected).zip(ConvertCall::BUFFERS) {
+        for ((lent, expected), name) in self.buffers.iter_mut().zip(&expected).zip(Framed::BUFFERS) {
             words.extend(first_difference(lent.last(expected.len()), expected).map(|what| format!("{name}: {what}")));
         }
         if code != expected_code || !words.is_empty() {
-            println!("difference: {call}{}", if null { ", NULL where empty" } else { "" });
+            println!("difference: {call}{}", lending.words());
             println!("  library returned {code}, reference {expected_code}");
-            println!("  source {}", start(&call.frames[0]));
+            Framed::BUFFERS.iter().zip(buffers).for_each(|(name, buffer)| println!("  {name} {}", start(buffer)));
             words.iter().for_each(|what| println!("  {what}"));
             self.differ();
         }
-        self.coverage.note_conversion(call, expected_code % 256, null);
+        call.note(&mut self.coverage, expected_code % 256, lending);
+        self.buffers[COUNT - 1].last(buffers[COUNT - 1].len()).to_vec()
+    }
+
+    /// Compares what the library answered to a score with what it answered before so many whole-cube turns of both frames.
+    pub fn compare_after_turns(&mut self, call: &ScoreCall, turns: usize, before: &[u8], after: &[u8]) {
+        if before != after {
+            println!("difference: {call}, after {turns} whole-cube turns");
+            println!("  answer {}, before the turns {}", text(after), text(before));
+            self.differ();
+        }
+        self.coverage.add(ScoreCall::NAME, "whole-cube turns before it", turns as i128);
     }
 
     /// A buffer behind random bytes.
@@ -157,6 +203,13 @@ impl Comparison {
             std::process::exit(1);
         }
     }
+}
+
+/// The position of the first buffer with the same bytes as this one, where both are only read; else its own position.
+fn first_same(buffers: &[&[u8]], position: usize) -> usize {
+    let only_read = &buffers[..buffers.len() - 1];
+    let same = only_read.iter().position(|buffer| *buffer == buffers[position]);
+    same.filter(|_| position < only_read.len()).unwrap_or(position)
 }
 
 /// The first byte that differs, counted from the first behind the front, and how many differ.
@@ -177,8 +230,8 @@ fn hexadecimal(memory: &[u8]) -> String {
     format!("{} | {}", text(&memory[..FRONT]), text(&memory[FRONT..]))
 }
 
-fn start(frame: &[u8]) -> String {
-    format!("{}{}", text(&frame[..frame.len().min(SHOWN)]), if frame.len() > SHOWN { " .." } else { "" })
+fn start(buffer: &[u8]) -> String {
+    format!("{}{}", text(&buffer[..buffer.len().min(SHOWN)]), if buffer.len() > SHOWN { " .." } else { "" })
 }
 
 fn text(bytes: &[u8]) -> String {

@@ -1,5 +1,9 @@
 //! A call of convert with its buffers, made of the library and of the reference.
 
+use crate::comparison::Lending;
+use crate::coverage::Coverage;
+use crate::damage::Damage;
+use crate::frame_call::{FrameCall, Parts};
 use reference::calls::{self, ConvertArguments};
 use std::fmt;
 
@@ -30,45 +34,6 @@ pub struct ConvertCall {
 impl ConvertCall {
     pub const NAME: &'static str = "convert";
 
-    /// What is lent, in the order of the arguments.
-    pub const BUFFERS: [&'static str; 4] = ["source layout", "target layout", "source", "target"];
-
-    /// The position of the target among them.
-    pub const TARGET: usize = 3;
-
-    /// No frame that is lent has more bytes: one of size 513, and two bytes more.
-    pub const LONGEST_FRAME: usize = 12 * 513 * 513 + 2;
-
-    pub fn buffers(&self) -> [&[u8]; 4] {
-        [&self.layouts[0], &self.layouts[1], &self.frames[0], &self.frames[1]]
-    }
-
-    /// What the library returns.
-    ///
-    /// # Safety
-    /// Each pointer points at as many bytes as its buffer has, which nothing else borrows, or that buffer is empty.
-    pub unsafe fn of_library(&self, pointers: [*mut u8; 4]) -> u64 {
-        let [source_size, target_size] = self.sizes;
-        let [source_format, target_format, sampler] = self.codes;
-        let [e0, e1, e2, e3] = self.rotation;
-        let [source_layout, target_layout, source, target] = pointers;
-        let [source_layout_length, target_layout_length, source_length, target_length] = self.buffers().map(<[u8]>::len);
-        #[rustfmt::skip]
-        let code = welchodrys_convert(
-            source_size, target_size, self.depth,
-            source_format, target_format, sampler,
-            source_layout, source_layout_length, target_layout, target_layout_length,
-            e0, e1, e2, e3,
-            source, source_length, target, target_length,
-        );
-        code
-    }
-
-    /// What the reference returns.
-    pub fn of_reference(&self, target: &mut [u8]) -> u64 {
-        calls::convert(self.arguments(), target)
-    }
-
     pub fn arguments(&self) -> ConvertArguments<'_> {
         ConvertArguments {
             source_size: self.sizes[0],
@@ -85,7 +50,62 @@ impl ConvertCall {
     }
 }
 
-/// The call but for the bytes of its frames.
+impl FrameCall<4> for ConvertCall {
+    const BUFFERS: [&'static str; 4] = ["source layout", "target layout", "source", "target"];
+    const QUESTIONS: &'static [u64] = &[1, 2, 3, 4, 5, 6, 7, 8, 9, 10];
+
+    fn buffers(&self) -> [&[u8]; 4] {
+        [&self.layouts[0], &self.layouts[1], &self.frames[0], &self.frames[1]]
+    }
+
+    unsafe fn of_library(&self, pointers: [*mut u8; 4]) -> u64 {
+        let [source_size, target_size] = self.sizes;
+        let [source_format, target_format, sampler] = self.codes;
+        let [e0, e1, e2, e3] = self.rotation;
+        let [source_layout, target_layout, source, target] = pointers;
+        let [source_layout_length, target_layout_length, source_length, target_length] = self.buffers().map(<[u8]>::len);
+        #[rustfmt::skip]
+        let code = welchodrys_convert(
+            source_size, target_size, self.depth,
+            source_format, target_format, sampler,
+            source_layout, source_layout_length, target_layout, target_layout_length,
+            e0, e1, e2, e3,
+            source, source_length, target, target_length,
+        );
+        code
+    }
+
+    fn of_reference(&self, target: &mut [u8]) -> u64 {
+        calls::convert(self.arguments(), target)
+    }
+
+    fn note(&self, coverage: &mut Coverage, number: u64, lending: Lending) {
+        coverage.note_conversion(self, number, lending);
+    }
+
+    fn damages(question: u64) -> Vec<Damage> {
+        let positions = |count: usize, damages: fn(usize) -> Vec<Damage>| (0..count).flat_map(damages).collect();
+        match question {
+            1 => Damage::of_size(0),
+            2 => Damage::of_size(1),
+            3 => Damage::of_depth(),
+            4 => positions(3, Damage::of_code),
+            5 => positions(2, Damage::of_layout),
+            6 => positions(4, Damage::of_rotation_number),
+            7 => vec![Damage::RotationZero],
+            8 => [Damage::of_length(0), vec![Damage::LengthOfTheOtherEnd { end: 0 }]].concat(),
+            9 => [Damage::of_length(1), vec![Damage::LengthOfTheOtherEnd { end: 1 }]].concat(),
+            10 => Damage::of_samples(0),
+            _ => unreachable!("convert puts 1 to 10"),
+        }
+    }
+
+    fn parts(&mut self) -> Parts<'_> {
+        let ConvertCall { sizes, depth, codes, layouts, rotation, frames } = self;
+        Parts { sizes, depth, codes, layouts, rotation, frames }
+    }
+}
+
 impl fmt::Display for ConvertCall {
     fn fmt(&self, formatter: &mut fmt::Formatter) -> fmt::Result {
         let ConvertCall { sizes, depth, codes, layouts, rotation, frames } = self;

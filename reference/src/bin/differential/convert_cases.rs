@@ -4,7 +4,8 @@ use crate::cases::rotation;
 use crate::comparison::Comparison;
 use crate::convert::ConvertCall;
 use crate::damage::Damage;
-use reference::frames::{frame_bytes, largest_sample};
+use crate::frame_call::FrameCall;
+use crate::frame_cases::{damage_any, damaged, frame, random_bytes, small_size};
 use reference::random::{cube_rotation, layout, Random};
 
 /// A whole-cube turn or another one, in range and not zero.
@@ -20,29 +21,6 @@ fn turn(random: &mut Random) -> [i64; 4] {
     }
 }
 
-fn random_bytes(random: &mut Random, size: u64) -> Vec<u8> {
-    let mut bytes = vec![0; frame_bytes(size as i64) as usize];
-    random.fill(&mut bytes);
-    bytes
-}
-
-/// A frame whose samples are within the depth: random ones, the smallest and the largest alone, or all the same.
-fn frame(random: &mut Random, size: u64, depth: u64) -> Vec<u8> {
-    let largest = largest_sample(depth as i64) as u16;
-    let (kind, any) = (random.below(6), random.bits() as u16 & largest);
-    let same = random.pick(&[0, largest, any]);
-    let mut bytes = random_bytes(random, size);
-    for pair in bytes.chunks_exact_mut(2) {
-        let sample = match kind {
-            0 => same,
-            1 | 2 => largest * u16::from(pair[0] % 2),
-            _ => u16::from_le_bytes([pair[0], pair[1]]) & largest,
-        };
-        pair.copy_from_slice(&sample.to_le_bytes());
-    }
-    bytes
-}
-
 /// A conversion that is accepted. The mixes 0 to 7 are bits: the source's format, the target's format, the sampler.
 fn conversion(random: &mut Random, sizes: [u64; 2], mix: u64) -> ConvertCall {
     let depth = 8 + random.below(5) as u64;
@@ -56,10 +34,6 @@ fn conversion(random: &mut Random, sizes: [u64; 2], mix: u64) -> ConvertCall {
     }
 }
 
-fn small_size(random: &mut Random) -> u64 {
-    1 + random.below(9) as u64
-}
-
 fn small_conversion(random: &mut Random) -> ConvertCall {
     let (sizes, mix) = ([small_size(random), small_size(random)], random.bits() % 8);
     conversion(random, sizes, mix)
@@ -67,7 +41,7 @@ fn small_conversion(random: &mut Random) -> ConvertCall {
 
 pub fn conversions(comparison: &mut Comparison) {
     accepted(comparison);
-    damaged(comparison);
+    damaged(comparison, small_conversion);
     medium(comparison);
     large(comparison);
 }
@@ -79,7 +53,7 @@ fn accepted(comparison: &mut Comparison) {
             let random = &mut comparison.random;
             let sizes = [small_size(random), small_size(random)];
             let call = conversion(random, sizes, mix);
-            comparison.compare_conversion(&call);
+            comparison.compare_frames(&call);
         }
     }
     // 31 and −31 at each place of the turn.
@@ -88,27 +62,9 @@ fn accepted(comparison: &mut Comparison) {
             for _ in 0..50 {
                 let mut call = small_conversion(&mut comparison.random);
                 call.rotation[position] = number;
-                comparison.compare_conversion(&call);
+                comparison.compare_frames(&call);
             }
         }
-    }
-}
-
-/// Small conversions with each damage alone, and with several.
-fn damaged(comparison: &mut Comparison) {
-    for question in 1..=10 {
-        for damage in Damage::of_question(question).into_iter().cycle().take(1_300) {
-            let mut call = small_conversion(&mut comparison.random);
-            damage.apply(&mut comparison.random, &mut call);
-            comparison.compare_conversion(&call);
-        }
-    }
-    for _ in 0..8_000 {
-        let mut call = small_conversion(&mut comparison.random);
-        for _ in 0..2 + comparison.random.below(3) {
-            Damage::any(&mut comparison.random).apply(&mut comparison.random, &mut call);
-        }
-        comparison.compare_conversion(&call);
     }
 }
 
@@ -118,9 +74,9 @@ fn medium(comparison: &mut Comparison) {
         let small = small_size(&mut comparison.random);
         for sizes in [[64, small], [small, 64], [64, 64]] {
             let mut call = conversion(&mut comparison.random, sizes, mix);
-            comparison.compare_conversion(&call);
-            Damage::any(&mut comparison.random).apply(&mut comparison.random, &mut call);
-            comparison.compare_conversion(&call);
+            comparison.compare_frames(&call);
+            damage_any(&mut comparison.random, &mut call);
+            comparison.compare_frames(&call);
         }
     }
 }
@@ -131,19 +87,19 @@ fn large(comparison: &mut Comparison) {
         [([512, 512], 0), ([512, 512], 7), ([512, 511], 5), ([511, 512], 6), ([511, 511], 4), ([2, 512], 3), ([64, 511], 1)]
     {
         let call = conversion(&mut comparison.random, sizes, mix);
-        comparison.compare_conversion(&call);
+        comparison.compare_frames(&call);
     }
     for mix in 0..8 {
         for size in [511, 512] {
             let sizes = [size, small_size(&mut comparison.random)];
             let call = conversion(&mut comparison.random, sizes, mix);
-            comparison.compare_conversion(&call);
+            comparison.compare_frames(&call);
         }
     }
     for damage in [
-        Damage::LastSample,
-        Damage::AnySample,
-        Damage::TwoSamples,
+        Damage::LastSample { end: 0 },
+        Damage::AnySample { end: 0 },
+        Damage::TwoSamples { end: 0 },
         Damage::ShorterBy { end: 0, bytes: 1 },
         Damage::LongerBy { end: 0, bytes: 2 },
         Damage::ShorterBy { end: 1, bytes: 2 },
@@ -152,15 +108,15 @@ fn large(comparison: &mut Comparison) {
         Damage::LengthOfTheOtherEnd { end: 1 },
     ] {
         let mut call = conversion(&mut comparison.random, [512, 511], 4);
-        damage.apply(&mut comparison.random, &mut call);
-        comparison.compare_conversion(&call);
+        damage.apply(&mut comparison.random, &mut call.parts());
+        comparison.compare_frames(&call);
     }
     // Sizes that are refused, with the bytes that a frame of that size would have.
     for size in [0, 513] {
         for other in [1, 5, size] {
             for sizes in [[size, other], [other, size]] {
                 let call = conversion(&mut comparison.random, sizes, 2);
-                comparison.compare_conversion(&call);
+                comparison.compare_frames(&call);
             }
         }
     }

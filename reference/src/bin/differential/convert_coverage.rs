@@ -1,11 +1,14 @@
 //! Which cases of conversions occurred, and those that must.
 
+use crate::comparison::Lending;
 use crate::convert::ConvertCall;
 use crate::coverage::{Case, Coverage};
+use crate::frame_call::FrameCall;
+use crate::frame_coverage;
 use reference::calls::accepted_conversion;
 use reference::checks;
 use reference::conversions::Conversion;
-use reference::frames::{frame_bytes, largest_sample, places, samples, USUAL_LAYOUT};
+use reference::frames::{frame_bytes, largest_sample, places, samples};
 use reference::positions::Location;
 use reference::rotations::{common_divisor, is_cube_rotation, matrix};
 use reference::samplers;
@@ -17,21 +20,16 @@ const LARGEST_TARGET: u64 = 5;
 
 impl Coverage {
     /// Notes the cases of a conversion with the number that the reference returned.
-    pub fn note_conversion(&mut self, call: &ConvertCall, number: u64, null: bool) {
-        self.add(NAME, "returned", number.into());
-        for (position, buffer) in (0..).zip(call.buffers()) {
-            if null && buffer.is_empty() {
-                self.add(NAME, "NULL lent as buffer", position);
-            }
-        }
+    pub fn note_conversion(&mut self, call: &ConvertCall, number: u64, lending: Lending) {
+        self.note_lending(NAME, number, &call.buffers(), lending);
         if number == 0 {
-            self.note_accepted(call);
+            self.note_accepted_conversion(call);
         } else {
-            self.note_refused(call, number);
+            self.note_refused_conversion(call, number);
         }
     }
 
-    fn note_accepted(&mut self, call: &ConvertCall) {
+    fn note_accepted_conversion(&mut self, call: &ConvertCall) {
         let [source_format, target_format, sampler] = call.codes;
         let mix = i128::from(source_format + 2 * target_format + 4 * sampler);
         for (size, event) in call.sizes.into_iter().zip(["accepted with source size", "accepted with target size"]) {
@@ -41,27 +39,12 @@ impl Coverage {
             self.add(NAME, "accepted with both sizes", call.sizes[0].into());
         }
         self.add(NAME, "accepted with depth", call.depth.into());
-        self.note_layouts(call);
+        self.note_layouts(NAME, &call.layouts);
         self.note_turn(call.rotation, mix);
         self.note_frame(call, sampler.into());
         if call.sizes[1] <= LARGEST_TARGET {
             let conversion = accepted_conversion(call.arguments(), call.frames[1].len()).expect("it is accepted");
             self.note_samples(&conversion, sampler.into());
-        }
-    }
-
-    fn note_layouts(&mut self, call: &ConvertCall) {
-        let in_slot = ["source's slot and face", "target's slot and face"];
-        let turned = ["source's face and its turns", "target's face and its turns"];
-        for (end, layout) in call.layouts.iter().enumerate() {
-            for slot in 0..6 {
-                let (face, quarter_turns) = (i128::from(layout[slot]), i128::from(layout[6 + slot]));
-                self.add(NAME, in_slot[end], 10 * slot as i128 + face);
-                self.add(NAME, turned[end], 10 * face + quarter_turns);
-            }
-            if layout[..] == USUAL_LAYOUT {
-                self.add(NAME, "the usual layout at end", end as i128);
-            }
         }
     }
 
@@ -137,21 +120,18 @@ impl Coverage {
         }
     }
 
-    fn note_refused(&mut self, call: &ConvertCall, number: u64) {
-        // 108 stands for a call that is refused by 1 and would else be refused by 8, or by one in between.
-        for later in noes(call).into_iter().filter(|&later| later > number) {
-            self.add(NAME, "refused by the first of two", (100 * number + later).into());
-        }
+    fn note_refused_conversion(&mut self, call: &ConvertCall, number: u64) {
+        self.note_noes(NAME, number, noes(call));
         match number {
             1 => self.add(NAME, "refused source size", call.sizes[0].into()),
             2 => self.add(NAME, "refused target size", call.sizes[1].into()),
             3 => self.add(NAME, "refused depth", call.depth.into()),
             4 => self.note_codes(call.codes),
-            5 => self.note_refused_layouts(call),
+            5 => self.note_refused_layouts(NAME, &call.layouts),
             6 => self.note_far_numbers(call.rotation),
-            8 => self.note_length(call, 0),
-            9 => self.note_length(call, 1),
-            10 => self.note_samples_beyond(call),
+            8 => self.note_end_length(call, 0),
+            9 => self.note_end_length(call, 1),
+            10 => self.note_samples_beyond(NAME, 0, &call.frames[0], call.depth),
             _ => {}
         }
     }
@@ -162,29 +142,6 @@ impl Coverage {
             for (code, event) in codes.into_iter().zip(events).filter(|(code, _)| *code > 1) {
                 self.add(NAME, event, code.into());
             }
-        }
-    }
-
-    fn note_refused_layouts(&mut self, call: &ConvertCall) {
-        let refused = [0, 1].map(|end| checks::layout(&call.layouts[end]).is_err());
-        let (end, layout) = match refused {
-            [true, false] => (0, &call.layouts[0]),
-            [false, true] => (1, &call.layouts[1]),
-            _ => return,
-        };
-        let lengths = ["refused source layout of length", "refused target layout of length"];
-        let faces = ["refused source layout with face", "refused target layout with face"];
-        let turns = ["refused source layout with turns", "refused target layout with turns"];
-        if layout.len() != 12 {
-            self.add(NAME, lengths[end], layout.len() as i128);
-            return;
-        }
-        let (large_face, large_turn) = (layout[..6].iter().max() > Some(&5), layout[6..].iter().max() > Some(&3));
-        match (large_face, large_turn) {
-            (true, false) => layout[..6].iter().for_each(|&face| self.add(NAME, faces[end], face.into())),
-            (false, true) => layout[6..].iter().for_each(|&count| self.add(NAME, turns[end], count.into())),
-            (false, false) => self.add(NAME, "refused for a face twice at end", end as i128),
-            (true, true) => {}
         }
     }
 
@@ -203,31 +160,10 @@ impl Coverage {
         }
     }
 
-    fn note_length(&mut self, call: &ConvertCall, end: usize) {
-        let length = call.frames[end].len() as i64;
-        let [own, other] = [call.sizes[end], call.sizes[1 - end]].map(|size| frame_bytes(size as i64));
-        let too_long = ["refused source, too long by", "refused target, too long by"];
-        self.add(NAME, too_long[end], (length - own).into());
-        if length == 0 {
-            self.add(NAME, "refused for no bytes at end", end as i128);
-        }
-        if length == other {
+    fn note_end_length(&mut self, call: &ConvertCall, end: usize) {
+        self.note_length(NAME, end, &call.frames[end], call.sizes[end]);
+        if call.frames[end].len() as i64 == frame_bytes(call.sizes[1 - end] as i64) {
             self.add(NAME, "refused for the other end's length at end", end as i128);
-        }
-    }
-
-    fn note_samples_beyond(&mut self, call: &ConvertCall) {
-        let source: Vec<u16> = samples(&call.frames[0]).collect();
-        let beyond = |index: &usize| i64::from(source[*index]) > largest_sample(call.depth as i64);
-        let indices: Vec<usize> = (0..source.len()).filter(beyond).collect();
-        match indices[..] {
-            [0] => self.add(NAME, "first sample alone beyond", 0),
-            [index] if index == source.len() - 1 => self.add(NAME, "last sample alone beyond", 0),
-            [_] => self.add(NAME, "another sample alone beyond", 0),
-            _ => self.add(NAME, "several samples beyond", 0),
-        }
-        if source[indices[0]] == 1 << call.depth {
-            self.add(NAME, "refused for a sample one too large at depth", call.depth.into());
         }
     }
 }
@@ -269,26 +205,12 @@ fn cube_rotation_numbers() -> Vec<i128> {
 
 /// The cases that must occur.
 pub fn wanted() -> Vec<Case> {
-    let mut cases = Vec::new();
+    let mut cases = frame_coverage::wanted(NAME, ConvertCall::BUFFERS.len(), ConvertCall::QUESTIONS, &[0]);
     let mut want = |event: &'static str, details: &[i128]| cases.extend(details.iter().map(|&detail| (NAME, event, detail)));
     let (huge, four, mixes) = (i128::from(u64::MAX), [0, 1, 2, 3], [0, 1, 2, 3, 4, 5, 6, 7]);
-    let pairs = |firsts: i128, seconds: i128| -> Vec<i128> {
-        (0..firsts).flat_map(|first| (0..seconds).map(move |second| 10 * first + second)).collect()
-    };
-    // A turn with a number out of range is not zero, so 6 and 7 do not come together.
-    let questions = (1..=10).flat_map(|first| (first + 1..=10).map(move |second| 100 * first + second));
-    let questions: Vec<i128> = questions.filter(|&both| both != 607).collect();
-    want("returned", &[0, 1, 2, 3, 4, 5, 6, 7, 8, 9, 10]);
-    want("NULL lent as buffer", &four);
     want("accepted with source size", &[1, 2, 3, 4, 5, 6, 7, 8, 9, 64, 511, 512]);
     want("accepted with target size", &[1, 2, 3, 4, 5, 6, 7, 8, 9, 64, 511, 512]);
     want("accepted with both sizes", &[1, 2, 9, 64, 511, 512]);
-    want("accepted with depth", &[8, 9, 10, 11, 12]);
-    want("source's slot and face", &pairs(6, 6));
-    want("target's slot and face", &pairs(6, 6));
-    want("source's face and its turns", &pairs(6, 4));
-    want("target's face and its turns", &pairs(6, 4));
-    want("the usual layout at end", &[0, 1]);
     want("accepted with 31 at", &four);
     want("accepted with -31 at", &four);
     want("accepted with another turn, formats and sampler", &mixes);
@@ -305,33 +227,16 @@ pub fn wanted() -> Vec<Case> {
     want("cubic value clipped to the smallest", &[0]);
     want("cubic value clipped to the largest", &[0]);
     want("cubic value halfway", &[0]);
-    want("refused by the first of two", &questions);
     want("refused source size", &[0, 513, huge]);
     want("refused target size", &[0, 513, huge]);
-    want("refused depth", &[0, 7, 13, huge]);
     want("refused source format", &[2, 255, huge]);
     want("refused target format", &[2, 255, huge]);
     want("refused sampler", &[2, 255, huge]);
-    want("refused source layout of length", &[0, 11, 13]);
-    want("refused target layout of length", &[0, 11, 13]);
-    want("refused source layout with face", &[6, 255]);
-    want("refused target layout with face", &[6, 255]);
-    want("refused source layout with turns", &[4, 255]);
-    want("refused target layout with turns", &[4, 255]);
-    want("refused for a face twice at end", &[0, 1]);
     want("refused for 32 at", &four);
     want("refused for -32 at", &four);
     want("refused for the lowest number at", &four);
     want("refused for the highest number at", &four);
-    want("refused source, too long by", &[-2, -1, 1, 2]);
-    want("refused target, too long by", &[-2, -1, 1, 2]);
-    want("refused for no bytes at end", &[0, 1]);
     want("refused for the other end's length at end", &[0, 1]);
-    want("first sample alone beyond", &[0]);
-    want("last sample alone beyond", &[0]);
-    want("another sample alone beyond", &[0]);
-    want("several samples beyond", &[0]);
-    want("refused for a sample one too large at depth", &[8, 9, 10, 11, 12]);
     cases
 }
 

@@ -1,7 +1,7 @@
 //! Which cases occurred, and those that must.
 
 use crate::call::Call;
-use crate::convert_coverage;
+use crate::{convert_coverage, score_coverage};
 use reference::positions::{self, Format, OnFace};
 use reference::random::LARGEST_RAY;
 use reference::rotations;
@@ -173,7 +173,7 @@ impl Coverage {
 
     /// The cases that must occur and did not.
     pub fn missing(&self) -> Vec<Case> {
-        let wanted = [wanted(), convert_coverage::wanted()].concat();
+        let wanted = [wanted(), convert_coverage::wanted(), score_coverage::wanted()].concat();
         wanted.into_iter().filter(|case| !self.seen.contains_key(case)).collect()
     }
 }

@@ -1,7 +1,7 @@
-//! What can be wrong with a conversion.
+//! What can be wrong with a call that is lent frames.
 
 use crate::cases::FAR;
-use crate::convert::ConvertCall;
+use crate::frame_call::Parts;
 use reference::frames::frame_bytes;
 use reference::random::Random;
 
@@ -26,7 +26,7 @@ const QUARTER_TURNS: [u8; 4] = [4, 5, 128, 255];
 /// Lengths of a layout other than 12.
 const LAYOUT_LENGTHS: [usize; 6] = [0, 1, 6, 11, 13, 24];
 
-/// The end 0 is the source, 1 the target.
+/// The ends are those of `Parts`.
 #[derive(Clone, Copy, Debug)]
 pub enum Damage {
     Size { end: usize, size: u64 },
@@ -45,41 +45,28 @@ pub enum Damage {
     ShorterBy { end: usize, bytes: usize },
     Empty { end: usize },
     LengthOfTheOtherEnd { end: usize },
-    FirstSample,
-    LastSample,
-    AnySample,
-    TwoSamples,
+    OtherSize,
+    FirstSample { end: usize },
+    LastSample { end: usize },
+    AnySample { end: usize },
+    TwoSamples { end: usize },
 }
 
 impl Damage {
-    /// What makes the answer to a question "no": each kind, at each end or position, with each number.
-    pub fn of_question(question: u64) -> Vec<Damage> {
-        let positions = |count: usize, damages: fn(usize) -> Vec<Damage>| (0..count).flat_map(damages).collect();
-        match question {
-            1 => Damage::of_size(0),
-            2 => Damage::of_size(1),
-            3 => [&DEPTHS.map(Damage::Depth)[..], &BITS.map(Damage::DepthBit)].concat(),
-            4 => positions(3, Damage::of_code),
-            5 => positions(2, Damage::of_layout),
-            6 => positions(4, |position| FAR.map(|number| Damage::RotationNumber { position, number }).to_vec()),
-            7 => vec![Damage::RotationZero],
-            8 => Damage::of_length(0),
-            9 => Damage::of_length(1),
-            10 => vec![Damage::FirstSample, Damage::LastSample, Damage::AnySample, Damage::TwoSamples],
-            _ => unreachable!("convert puts 1 to 10"),
-        }
-    }
-
-    fn of_size(end: usize) -> Vec<Damage> {
+    pub fn of_size(end: usize) -> Vec<Damage> {
         [&SIZES.map(|size| Damage::Size { end, size })[..], &BITS.map(|bit| Damage::SizeBit { end, bit })].concat()
     }
 
-    fn of_code(position: usize) -> Vec<Damage> {
+    pub fn of_depth() -> Vec<Damage> {
+        [&DEPTHS.map(Damage::Depth)[..], &BITS.map(Damage::DepthBit)].concat()
+    }
+
+    pub fn of_code(position: usize) -> Vec<Damage> {
         let bits = BITS.map(|bit| Damage::CodeBit { position, bit });
         [&CODES.map(|code| Damage::Code { position, code })[..], &bits].concat()
     }
 
-    fn of_layout(end: usize) -> Vec<Damage> {
+    pub fn of_layout(end: usize) -> Vec<Damage> {
         let mut damages = vec![Damage::FaceTwice { end }];
         damages.extend(FACES.map(|face| Damage::Face { end, face }));
         damages.extend(QUARTER_TURNS.map(|count| Damage::QuarterTurns { end, count }));
@@ -87,26 +74,28 @@ impl Damage {
         damages
     }
 
-    fn of_length(end: usize) -> Vec<Damage> {
-        let mut damages = vec![Damage::Empty { end }, Damage::LengthOfTheOtherEnd { end }];
+    pub fn of_rotation_number(position: usize) -> Vec<Damage> {
+        FAR.map(|number| Damage::RotationNumber { position, number }).to_vec()
+    }
+
+    pub fn of_length(end: usize) -> Vec<Damage> {
+        let mut damages = vec![Damage::Empty { end }];
         damages.extend([1, 2].map(|bytes| Damage::LongerBy { end, bytes }));
         damages.extend([1, 2].map(|bytes| Damage::ShorterBy { end, bytes }));
         damages
     }
 
-    /// Any damage, for each question as often as for another.
-    pub fn any(random: &mut Random) -> Damage {
-        let question = 1 + random.below(10) as u64;
-        random.pick(&Damage::of_question(question))
+    pub fn of_samples(end: usize) -> Vec<Damage> {
+        vec![Damage::FirstSample { end }, Damage::LastSample { end }, Damage::AnySample { end }, Damage::TwoSamples { end }]
     }
 
     /// Does the damage to a call, which may have others already.
-    pub fn apply(self, random: &mut Random, call: &mut ConvertCall) {
+    pub fn apply(self, random: &mut Random, call: &mut Parts) {
         match self {
             Damage::Size { end, size } => call.sizes[end] = size,
             Damage::SizeBit { end, bit } => call.sizes[end] |= 1 << bit,
-            Damage::Depth(depth) => call.depth = depth,
-            Damage::DepthBit(bit) => call.depth |= 1 << bit,
+            Damage::Depth(depth) => *call.depth = depth,
+            Damage::DepthBit(bit) => *call.depth |= 1 << bit,
             Damage::Code { position, code } => call.codes[position] = code,
             Damage::CodeBit { position, bit } => call.codes[position] |= 1 << bit,
             Damage::FaceTwice { end } => {
@@ -117,7 +106,7 @@ impl Damage {
             Damage::QuarterTurns { end, count } => replace(&mut call.layouts[end], 6 + random.below(6), |_| count),
             Damage::LayoutLength { end, length } => call.layouts[end].resize(length, 0),
             Damage::RotationNumber { position, number } => call.rotation[position] = number,
-            Damage::RotationZero => call.rotation = [0; 4],
+            Damage::RotationZero => call.rotation.fill(0),
             Damage::LongerBy { end, bytes } => {
                 let length = call.frames[end].len() + bytes;
                 call.frames[end].resize(length, 0);
@@ -131,12 +120,13 @@ impl Damage {
                 let size = call.sizes[1 - end].min(513) as i64;
                 call.frames[end].resize(frame_bytes(size) as usize, 0);
             }
-            Damage::FirstSample => put_beyond(random, call, |_, _| 0),
-            Damage::LastSample => put_beyond(random, call, |_, count| count - 1),
-            Damage::AnySample => put_beyond(random, call, |random, count| random.below(count)),
-            Damage::TwoSamples => {
-                Damage::AnySample.apply(random, call);
-                Damage::AnySample.apply(random, call);
+            Damage::OtherSize => call.sizes[0] = call.sizes[0] % 512 + 1,
+            Damage::FirstSample { end } => put_beyond(random, call, end, |_, _| 0),
+            Damage::LastSample { end } => put_beyond(random, call, end, |_, count| count - 1),
+            Damage::AnySample { end } => put_beyond(random, call, end, |random, count| random.below(count)),
+            Damage::TwoSamples { end } => {
+                Damage::AnySample { end }.apply(random, call);
+                Damage::AnySample { end }.apply(random, call);
             }
         }
     }
@@ -149,13 +139,13 @@ fn replace(layout: &mut [u8], position: usize, byte: impl Fn(&[u8; 12]) -> u8) {
     }
 }
 
-/// Replaces the sample at an index, of so many, by one beyond the depth, if there is any sample.
-fn put_beyond(random: &mut Random, call: &mut ConvertCall, index: impl Fn(&mut Random, usize) -> usize) {
-    let count = call.frames[0].len() / 2;
+/// Replaces the sample of a frame at an index, of so many, by one beyond the depth, if there is any sample.
+fn put_beyond(random: &mut Random, call: &mut Parts, end: usize, index: impl Fn(&mut Random, usize) -> usize) {
+    let count = call.frames[end].len() / 2;
     if count > 0 {
         let index = index(random, count);
-        let (lowest, any) = (1 << call.depth.min(15), random.bits() as u16);
+        let (lowest, any) = (1 << (*call.depth).min(15), random.bits() as u16);
         let sample = random.pick(&[lowest, lowest | any, 1 << 15, u16::MAX]);
-        call.frames[0][2 * index..2 * index + 2].copy_from_slice(&sample.to_le_bytes());
+        call.frames[end][2 * index..2 * index + 2].copy_from_slice(&sample.to_le_bytes());
     }
 }

@@ -10,12 +10,19 @@ mod convert_cases;
 mod convert_coverage;
 mod coverage;
 mod damage;
+mod frame_call;
+mod frame_cases;
+mod frame_coverage;
 mod lent;
+mod score;
+mod score_cases;
+mod score_coverage;
 
 use call::Call;
 use comparison::Comparison;
 use convert::ConvertCall;
 use reference::random::Random;
+use score::ScoreCall;
 use std::process::ExitCode;
 
 fn main() -> ExitCode {
@@ -32,12 +39,13 @@ fn main() -> ExitCode {
     cases::equalities(&mut comparison);
     cases::look_ups(&mut comparison);
     convert_cases::conversions(&mut comparison);
+    score_cases::scores(&mut comparison);
     report(&comparison)
 }
 
 fn report(comparison: &Comparison) -> ExitCode {
     let coverage = &comparison.coverage;
-    for name in Call::NAMES.into_iter().chain([ConvertCall::NAME]) {
+    for name in Call::NAMES.into_iter().chain([ConvertCall::NAME, ScoreCall::NAME]) {
         let returned = coverage.returned(name);
         let compared: u64 = returned.iter().map(|(_, count)| count).sum();
         let parts = returned.iter().map(|(number, count)| match number {
@@ -55,6 +63,7 @@ fn report(comparison: &Comparison) -> ExitCode {
         halves[0], halves[1]
     );
     convert_coverage::report(coverage);
+    score_coverage::report(coverage);
     let missing = coverage.missing();
     for (name, event, detail) in &missing {
         println!("this case did not occur: {name}, {event} {detail}");

@@ -1,9 +1,9 @@
--- `call` meets its contract: no more bytes of a layout are lent than it has.
+-- `with_layouts` meets its contract: no more bytes of a layout are lent than it has.
 use native.Mathlib.Omega.{arith}
 use lib.ListN.{length-take}
 use borrow.Author.Needs.{needs}
-use Rattle.conformance.proofs.call.Statement.{statement}
-use Rattle.conformance.proofs.call.Tie as tie
+use Rattle.conformance.proofs.with_layouts.Statement.{statement}
+use Rattle.conformance.proofs.with_layouts.Tie as tie
 
 layout-bytes-requires : tie.Need-layout-bytes-requires
 layout-bytes-requires c κs = search needs
@@ -20,17 +20,17 @@ layout-length-requires-2 c κs = search needs
 array-share-prefix-source-layout : tie.Need-array-share-prefix-source-layout
 array-share-prefix-source-layout c = search needs
 
-slice-aggregate-welchodrys-convert : tie.Need-slice-aggregate-welchodrys-convert
-slice-aggregate-welchodrys-convert c = simp length-take (omega arith)
+slice-aggregate-convert-and-score : tie.Need-slice-aggregate-convert-and-score
+slice-aggregate-convert-and-score c = simp length-take (omega arith)
 
 array-share-prefix-target-layout : tie.Need-array-share-prefix-target-layout
 array-share-prefix-target-layout c = search needs
 
-slice-aggregate-welchodrys-convert-2 : tie.Need-slice-aggregate-welchodrys-convert-2
-slice-aggregate-welchodrys-convert-2 c = simp length-take (omega arith)
+slice-aggregate-convert-and-score-2 : tie.Need-slice-aggregate-convert-and-score-2
+slice-aggregate-convert-and-score-2 c = simp length-take (omega arith)
 
-welchodrys-convert-requires : tie.Need-welchodrys-convert-requires
-welchodrys-convert-requires c κs = search needs
+convert-and-score-requires : tie.Need-convert-and-score-requires
+convert-and-score-requires c κs = search needs
 
 same-length : tie.Need-same-length
 same-length c = search needs
@@ -38,8 +38,8 @@ same-length c = search needs
 returns : tie.Need-returns
 returns c = search needs
 
-pub call-spec : {M : Type 1} → statement M
-call-spec =
+pub with-layouts-spec : {M : Type 1} → statement M
+with-layouts-spec =
     tie.close
     (tie.spec
     layout-bytes-requires
@@ -47,9 +47,9 @@ call-spec =
     layout-bytes-requires-2
     layout-length-requires-2
     array-share-prefix-source-layout
-    slice-aggregate-welchodrys-convert
+    slice-aggregate-convert-and-score
     array-share-prefix-target-layout
-    slice-aggregate-welchodrys-convert-2
-    welchodrys-convert-requires
+    slice-aggregate-convert-and-score-2
+    convert-and-score-requires
     same-length
     returns)

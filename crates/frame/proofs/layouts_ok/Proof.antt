@@ -2,8 +2,8 @@
 use mathlib.Core.Path.{ap₂}
 use mathlib.Core.Bool.{_&&_}
 use borrow.Author.Needs.{needs}
-use Rattle.conversion.proofs.layouts_ok.Statement.{statement}
-use Rattle.conversion.proofs.layouts_ok.Tie as tie
+use Rattle.frame.proofs.layouts_ok.Statement.{statement}
+use Rattle.frame.proofs.layouts_ok.Tie as tie
 
 returns : tie.Need-returns
 returns c = ap₂ _&&_ (c .before .layout-ok .ensures) (c .layout-ok2 .ensures)

@@ -1,4 +1,4 @@
-/* Folds two turns, tests two turns for equality, looks up a ray and converts a small frame, as a maker's program would. */
+/* Folds two turns, tests two turns for equality, looks up a ray, converts and scores a small frame, as a maker's program would. */
 #include "welchodrys.h"
 
 #include <inttypes.h>
@@ -32,9 +32,10 @@ static const char *in_words(uint64_t code)
     case WELCHODRYS_LAYOUT: return "a layout is not 12 bytes that hold every face once, with turns 0 to 3";
     case WELCHODRYS_TURN_RANGE: return "a number of a turn is not -31 to 31";
     case WELCHODRYS_TURN_ZERO: return "all four numbers of a turn are 0";
-    case WELCHODRYS_FIRST_LENGTH: return "the source has not exactly the frame's bytes";
-    case WELCHODRYS_SECOND_LENGTH: return "the target has not exactly the frame's bytes";
-    case WELCHODRYS_FIRST_SAMPLE: return "a sample of the source is beyond the depth";
+    case WELCHODRYS_FIRST_LENGTH: return "the source, or the first frame, has not exactly the frame's bytes";
+    case WELCHODRYS_SECOND_LENGTH: return "the target, or the second frame, has not exactly the frame's bytes";
+    case WELCHODRYS_FIRST_SAMPLE: return "a sample of the source, or of the first frame, is beyond the depth";
+    case WELCHODRYS_SECOND_SAMPLE: return "a sample of the second frame is beyond the depth";
     case WELCHODRYS_FOLDED_RANGE: return "a number of the folded turn is not -31 to 31";
     case WELCHODRYS_RAY_RANGE: return "a number of the ray is not -536870911 to 536870911";
     case WELCHODRYS_RAY_ZERO: return "the ray is zero";
@@ -51,15 +52,46 @@ static int accepted(const char *call, uint64_t code)
     return 0;
 }
 
-/* Looks up one ray in a format, and prints where it meets the cube. */
-static int look_up(const char *name, uint64_t format)
+/* Folds two turns, and prints the one that they are together. */
+static int fold_turns(void)
+{
+    uint8_t answer[32];
+    if (!accepted("fold", welchodrys_fold(1, 1, 0, 0, 1, 0, 1, 0, answer, sizeof answer)))
+        return 0;
+    const int64_t e0 = number_at(answer, 0), e1 = number_at(answer, 1), e2 = number_at(answer, 2), e3 = number_at(answer, 3);
+    printf("The turn (1, 1, 0, 0), then (1, 0, 1, 0), is (%" PRId64 ", %" PRId64 ", %" PRId64 ", %" PRId64 ").\n", e0, e1, e2, e3);
+    return e0 == 1 && e1 == 1 && e2 == 1 && e3 == 1;
+}
+
+/* Tries to fold two turns into one with too large numbers, and prints the refusal. */
+static int refuse_fold(void)
+{
+    uint8_t answer[32];
+    const uint64_t code = welchodrys_fold(31, 1, 0, 0, 31, 1, 0, 0, answer, sizeof answer);
+    printf("The turn (31, 1, 0, 0), folded with itself, gives number %" PRIu64 ": %s.\n", WELCHODRYS_NUMBER(code), in_words(code));
+    return code == WELCHODRYS_FOLDED_RANGE;
+}
+
+/* Tests two turns for equality; each is a multiple of the other. */
+static int compare_turns(void)
+{
+    uint8_t answer[8];
+    if (!accepted("equality", welchodrys_equal(1, 2, 3, 4, -2, -4, -6, -8, answer, sizeof answer)))
+        return 0;
+    const int equal = number_at(answer, 0) == 1;
+    printf("The turns (1, 2, 3, 4) and (-2, -4, -6, -8) are %s.\n", equal ? "equal" : "not equal");
+    return equal;
+}
+
+/* Looks up one ray in a format, and prints where it meets the cube. The two formats differ in the row. */
+static int look_up(const char *name, uint64_t format, int64_t expected_row)
 {
     uint8_t answer[24];
     if (!accepted("look-up", welchodrys_look_up(4, format, 2, -1, 0, answer, sizeof answer)))
         return 0;
     printf("The ray (2, -1, 0) meets the %s cube of face size 4 at face %" PRId64 ", column %" PRId64 "/64, row %" PRId64 "/64.\n",
         name, number_at(answer, 0), number_at(answer, 1), number_at(answer, 2));
-    return 1;
+    return number_at(answer, 0) == 0 && number_at(answer, 1) == 96 && number_at(answer, 2) == expected_row;
 }
 
 /* The index of a face's sample in the usual layout. Each quarter turn takes (column, row) to (SIZE - 1 - row, column). */
@@ -133,7 +165,7 @@ static int turn_frame(const uint8_t *source, uint8_t *target)
 }
 
 /* Tries to convert a frame with one sample too large, and prints the refusal. */
-static int refuse_frame(uint8_t *source, uint8_t *target)
+static int refuse_conversion(uint8_t *source, uint8_t *target)
 {
     uint8_t before[WELCHODRYS_FRAME_BYTES(SIZE)];
     memcpy(before, target, sizeof before);
@@ -145,27 +177,53 @@ static int refuse_frame(uint8_t *source, uint8_t *target)
     return code == WELCHODRYS_FIRST_SAMPLE + 256 * 37 && unchanged;
 }
 
+/* The score of two frames in the usual layout: the error sum, then the weight sum. */
+static uint64_t score(const uint8_t *first, const uint8_t *second, uint8_t answer[16])
+{
+    return welchodrys_score(SIZE, DEPTH, WELCHODRYS_CMP, usual_layout, sizeof usual_layout, usual_layout, sizeof usual_layout,
+        first, WELCHODRYS_FRAME_BYTES(SIZE), second, WELCHODRYS_FRAME_BYTES(SIZE), answer, 16);
+}
+
+/* Scores the small frame and the turned one, then both turned once more; the two scores have to be the same. */
+static int score_frames(const uint8_t *source, const uint8_t *turned)
+{
+    uint8_t before[16], after[16], turned_twice[WELCHODRYS_FRAME_BYTES(SIZE)];
+    if (!accepted("score", score(source, turned, before)) || !accepted("conversion", convert(turned, turned_twice))
+        || !accepted("score", score(turned, turned_twice, after)))
+        return 0;
+    const int64_t error = number_at(before, 0), weights = number_at(before, 1);
+    const int same = memcmp(before, after, sizeof before) == 0;
+    printf("The frame and the turned one have the score %" PRId64 " of %" PRId64 ": their weighted mean squared error is %.2f.\n",
+        error, weights, (double)error / (double)weights);
+    printf("With both frames turned by (1, 0, 1, 0) once more, the score is %s.\n", same ? "the same" : "another one");
+    return error == 58900480128 && weights == 3344448 && same;
+}
+
+/* Tries to score a second frame with one sample too large, and prints the refusal. */
+static int refuse_score(const uint8_t *first, uint8_t *second)
+{
+    uint8_t answer[16] = {0}, before[16] = {0};
+    put_sample(second, 37, 256);
+    const uint64_t code = score(first, second, answer);
+    const int unchanged = memcmp(before, answer, sizeof before) == 0;
+    printf("With 256 at index 37 of the second frame, a score gives number %" PRIu64 ", index %" PRIu64 ": %s; the answer is %s.\n",
+        WELCHODRYS_NUMBER(code), WELCHODRYS_INDEX(code), in_words(code), unchanged ? "unchanged" : "changed");
+    return code == WELCHODRYS_SECOND_SAMPLE + 256 * 37 && unchanged;
+}
+
 int main(void)
 {
-    uint8_t answer[32], source[WELCHODRYS_FRAME_BYTES(SIZE)], target[WELCHODRYS_FRAME_BYTES(SIZE)];
+    uint8_t source[WELCHODRYS_FRAME_BYTES(SIZE)], target[WELCHODRYS_FRAME_BYTES(SIZE)];
 
-    if (!accepted("fold", welchodrys_fold(1, 1, 0, 0, 1, 0, 1, 0, answer, sizeof answer)))
+    if (!fold_turns() || !compare_turns())
         return 1;
-    printf("The turn (1, 1, 0, 0), then (1, 0, 1, 0), is (%" PRId64 ", %" PRId64 ", %" PRId64 ", %" PRId64 ").\n",
-        number_at(answer, 0), number_at(answer, 1), number_at(answer, 2), number_at(answer, 3));
-
-    if (!accepted("equality", welchodrys_equal(1, 2, 3, 4, -2, -4, -6, -8, answer, sizeof answer)))
+    if (!look_up("CMP", WELCHODRYS_CMP, 160) || !look_up("ACP", WELCHODRYS_ACP, 172))
         return 1;
-    printf("The turns (1, 2, 3, 4) and (-2, -4, -6, -8) are %s.\n", number_at(answer, 0) == 1 ? "equal" : "not equal");
-
-    if (!look_up("CMP", WELCHODRYS_CMP) || !look_up("ACP", WELCHODRYS_ACP))
-        return 1;
-
-    uint64_t code = welchodrys_fold(31, 1, 0, 0, 31, 1, 0, 0, answer, sizeof answer);
-    printf("The turn (31, 1, 0, 0), folded with itself, gives number %" PRIu64 ": %s.\n", WELCHODRYS_NUMBER(code), in_words(code));
-    if (code != WELCHODRYS_FOLDED_RANGE)
+    if (!refuse_fold())
         return 1;
 
     fill(source);
-    return turn_frame(source, target) && refuse_frame(source, target) ? 0 : 1;
+    if (!turn_frame(source, target) || !score_frames(source, target))
+        return 1;
+    return refuse_conversion(source, target) && refuse_score(target, source) ? 0 : 1;
 }

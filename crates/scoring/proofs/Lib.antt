@@ -1,0 +1,4 @@
+mod Passing
+mod Summing
+mod Weighing
+mod Planes

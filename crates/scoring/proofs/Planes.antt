@@ -1,0 +1,27 @@
+-- A frame that has passed its checks is a plane that can be scored.
+use mathlib.Core.List.{List}
+use Prim.Native.Nat.{ℕ, _^_, _<_}
+use native.Mathlib.Omega.{arith}
+use lib.Dec.{T}
+use lib.IntN.{ℤ}
+use lib.ListN.{length}
+use Rattle.cubemap.specs.declared.Shape.{Shape}
+use Rattle.cubemap.specs.Frames.{sampleAt}
+use Rattle.cubemap.specs.Checks.{sizeOK, depthOK, lengthOK, samplesOK}
+use Rattle.cubemap.proofs.Framed.{plane-bytes, samples-number, samples-below}
+use Rattle.cubemap.proofs.Passed.{size-range, depth-levels}
+use Rattle.indices.specs.Steps.{LeadsTo}
+use Rattle.indices.proofs.Stepping.{stepped-plane}
+use Rattle.scoring.specs.Rows.{ScoredPlane}
+
+module _ (z : Shape) (L bytes : List ℕ) (steps : List ℤ) where
+  pub scored-plane : T (sizeOK (z .size)) → T (depthOK (z .depth)) → T (lengthOK z (length bytes)) → T (samplesOK z bytes)
+      → LeadsTo (z .size) L steps → ScoredPlane (z .size) bytes steps
+  scored-plane size depth long samples leads = record {
+    stepped = stepped-plane (z .size) L steps leads (size-range (z .size) size .at-least) (size-range (z .size) size .at-most)
+        (plane-bytes z (length bytes) long);
+    shallow = record { within = λ i l. small (sampleAt bytes i) (samples-below z bytes samples i (omega (arith, samples-number z))) };
+  }
+    where
+      small : (v : ℕ) → v < 2 ^ z .depth → v < 4096
+      small v h = omega (arith, depth-levels (z .depth) depth)

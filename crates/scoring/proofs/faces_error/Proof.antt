@@ -1,0 +1,94 @@
+-- `faces_error` meets its contract: after f faces the sum is that of the first f faces' rows.
+use mathlib.Core.Path.{_≡_, sym, _∙_, ap₂, subst}
+use mathlib.Core.List.{List}
+use Prim.Native.Nat.{ℕ, _-_, _≤_, _<_}
+use native.Mathlib.Omega.{arith}
+use lib.IntN.{ℤ}
+use borrow.Author.Needs.{needs}
+use Rattle.indices.specs.declared.FaceSteps.{FaceSteps}
+use Rattle.indices.specs.Steps.{stepsIn}
+use Rattle.indices.proofs.Stepping.{face-of}
+use Rattle.scoring.specs.Rows.{ScoredFace, ScoredPlane, faceError}
+use Rattle.scoring.proofs.Summing.{Running, running-none, running-next, running-all}
+use Rattle.scoring.proofs.faces_error.Statement.{statement}
+use Rattle.scoring.proofs.faces_error.Tie as tie
+
+-- the part of a face
+abbrev term : ℕ → List ℕ → List ℤ → List ℕ → List ℤ → List ℕ → ℕ → ℕ → ℕ
+term size first s second t weights n f = faceError size first (stepsIn s f) second (stepsIn t f) weights n
+
+record Summed (f : ℕ → ℕ) (error face : ℕ) : Type 0 where
+  bounded : face ≤ 6
+  running : Running f 562675109068800 face error
+
+abbrev Inv-loop : tie.InvT-loop
+Inv-loop size first first-steps second second-steps weights row error₀ face₀ error face =
+    Summed (term size first first-steps second second-steps weights row) error face
+
+abbrev μ-loop : tie.MeasureT-loop
+μ-loop size first first-steps second second-steps weights row error₀ face₀ error face = 6 - face
+
+loop-holds : tie.Need-loop-holds Inv-loop μ-loop
+loop-holds c = record { bounded = omega arith; running = running-none _ 562675109068800 }
+
+scored-face : {A : ℕ} {plane : List ℕ} {table : List ℤ} → ScoredPlane A plane table → (f : ℕ) → f < 6 → ScoredFace A plane (stepsIn table f)
+scored-face p f h = record { stepped = face-of (p .stepped) f h; shallow = p .shallow }
+
+steps-at-requires : tie.Need-steps-at-requires Inv-loop μ-loop
+steps-at-requires c κs = c .loop-test .taken
+
+steps-at-requires-2 : tie.Need-steps-at-requires-2 Inv-loop μ-loop
+steps-at-requires-2 c κs = c .before .loop-test .taken
+
+face-error-requires : tie.Need-face-error-requires Inv-loop μ-loop
+face-error-requires c κs =
+    let s : tie.Start Inv-loop μ-loop = c .before .before .before .before .before .before in
+    let face = c .before .before .loop-test .taken in (
+      (
+        subst (ScoredFace _ _) (sym (c .before .steps-at .ensures)) (scored-face (s .pre .0 .0) _ face),
+        subst (ScoredFace _ _) (sym (c .steps-at2 .ensures)) (scored-face (s .pre .0 .1) _ face),
+      ),
+      (s .pre .1 .0, s .pre .0 .0 .stepped .size-least, s .pre .1 .1),
+    )
+
+add-error : tie.Need-add-error Inv-loop μ-loop
+add-error c = omega (arith, c .before .before .before .before .loop .inv .running .small, c .face-error .ensures)
+
+add-face : tie.Need-add-face Inv-loop μ-loop
+add-face c = omega arith
+
+loop-less : tie.Need-loop-less Inv-loop μ-loop
+loop-less c = omega arith
+
+loop-again : tie.Need-loop-again Inv-loop μ-loop
+loop-again c =
+    let a = c .before .before .before .before .before .before .before .args in
+    record {
+      bounded = omega arith;
+      running = running-next (c .before .before .before .before .loop .inv .running)
+          (c .face-error .ensures .0
+          ∙ ap₂ (λ from to. faceError (a .size) (a .first .now) from (a .second .now) to (a .weights .now) (a .row))
+          (c .before .before .steps-at .ensures) (c .before .steps-at2 .ensures))
+          (c .face-error .ensures .1);
+    }
+
+returns : tie.Need-returns Inv-loop μ-loop
+returns c =
+    let l = c .before .loop in
+    (running-all 6 (l .inv .running) (omega arith), omega (arith, l .inv .running .small))
+
+pub faces-error-spec : {M : Type 1} → statement M
+faces-error-spec =
+    tie.close
+    (tie.spec
+    Inv-loop
+    μ-loop
+    loop-holds
+    steps-at-requires
+    steps-at-requires-2
+    face-error-requires
+    add-error
+    add-face
+    loop-less
+    loop-again
+    returns)

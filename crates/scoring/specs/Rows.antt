@@ -1,0 +1,38 @@
+-- What a score is summed from, row by row.
+use mathlib.Core.Path.{_≡_}
+use mathlib.Core.List.{List}
+use Prim.Native.Nat.{ℕ, _*_, _<_}
+use lib.IntN.{ℤ}
+use lib.ListN.{getD}
+use Rattle.arithmetic.specs.Sums.{sumBelow}
+use Rattle.cubemap.specs.declared.Format.{Format}
+use Rattle.cubemap.specs.Frames.{planeSamples, sampleAt}
+use Rattle.cubemap.specs.Score.{weight, squaredDifference}
+use Rattle.indices.specs.declared.FaceSteps.{FaceSteps}
+use Rattle.indices.specs.Steps.{stepsIn, SteppedFace, SteppedPlane, sampleBySteps}
+
+-- the table has the weights of row n, for every format. Nothing is said of the entries from A on.
+pub record Weighed (A n : ℕ) (weights : List ℕ) : Type 0 where
+  pub entry : (format : Format) (m : ℕ) → m < A → getD weights m 0 ≡ weight format A m n
+
+-- each sample is within the greatest depth
+pub record Shallow (A : ℕ) (plane : List ℕ) : Type 0 where
+  pub within : (i : ℕ) → i < planeSamples A → sampleAt plane i < 4096
+
+-- a face of such a plane, and all six, with steps to their samples
+pub record ScoredFace (A : ℕ) (plane : List ℕ) (s : FaceSteps) : Type 0 where
+  pub stepped : SteppedFace A plane s
+  pub shallow : Shallow A plane
+
+pub record ScoredPlane (A : ℕ) (plane : List ℕ) (steps : List ℤ) : Type 0 where
+  pub stepped : SteppedPlane A plane steps
+  pub shallow : Shallow A plane
+
+-- the sum of W × squared difference over row n of a face: face size, plane and steps of the first frame and of the second, weights of the row
+abbrev pub faceError : ℕ → List ℕ → FaceSteps → List ℕ → FaceSteps → List ℕ → ℕ → ℕ
+faceError A first s second t weights n =
+    sumBelow (λ m. getD weights m 0 * squaredDifference (sampleBySteps first s m n) (sampleBySteps second t m n)) A
+
+-- and of all six
+abbrev pub facesError : ℕ → List ℕ → List ℤ → List ℕ → List ℤ → List ℕ → ℕ → ℕ
+facesError A first s second t weights n = sumBelow (λ f. faceError A first (stepsIn s f) second (stepsIn t f) weights n) 6

@@ -1,0 +1,348 @@
+// Score: questions 1, 3, 4, 5 and 8 to 11 in order, and then the two sums.
+ghost use mathlib.Core.Path.{_≡_};
+ghost use Prim.Native.Nat.{ℕ, _+_, _*_, _^_, _≤_, _<_};
+ghost use lib.IntN.{natAbs};
+ghost use lib.ListN.{length, getD};
+ghost use Rattle.arithmetic.specs.Sums.{sumBelow};
+ghost use Rattle.cubemap.specs.declared.Format.{Format};
+ghost use Rattle.cubemap.specs.Frames.{sampleAtPlace};
+ghost use Rattle.cubemap.specs.PlaceToRay.{fromCentre};
+ghost use Rattle.cubemap.specs.Score.{weightOf, squaredDifference, errorSum, weightSum};
+ghost use Rattle.cubemap.specs.Checks.{scoreSettings};
+ghost use Rattle.cubemap.specs.Outcomes.{scoredMeans, scoreResult};
+ghost use Rattle.cubemap.proofs.Passed.{ScorePassed};
+ghost use Rattle.cubemap.proofs.Weights.{lengthSquared};
+ghost use Rattle.indices.specs.Steps.{sampleBy};
+ghost use Rattle.scoring.specs.Tests.{passing, TestOf, Bounds, IsMost};
+ghost use Rattle.scoring.specs.Rows.{Weighed, ScoredFace, ScoredPlane, faceError, facesError};
+use cubemap::Refusal;
+use cubemap::Scored;
+use cubemap::Shape;
+use indices::FaceSteps;
+
+// ---- the weight of a place
+
+// The test of a weight, in numbers that fit 64 bits: W passes where W²·(high·2^30 + low) ≤ 2^30·limit.
+struct WeightTest {
+    high: u64,
+    low: u64,
+    limit: u64,
+}
+
+// The third power.
+fn cube(k: u64) -> u64
+    requires { ⌜ k ≤ 786432 ⌝ }
+    ensures { λ r. ⌜ (r ≡ k ^ 3) × (r ≤ 486388759756013568) ⌝ }
+{
+    k * k * k
+}
+
+// The size of p, of a column, or of q, of a row.
+fn offset(size: u64, m: u64) -> u64
+    requires { ⌜ (size ≤ 512) × (m < size) ⌝ }
+    ensures { λ r. ⌜ (r ≡ natAbs (fromCentre size m)) × (r < size) ⌝ }
+{
+    arithmetic::magnitude(geometry::from_centre(size, m))
+}
+
+// The test of a place where K is k, with the limit 4·A^6.
+fn test_of(limit: u64, k: u64) -> WeightTest
+    requires { ⌜ k ≤ 786432 ⌝ }
+    ensures { λ r. ⌜ TestOf limit k r ⌝ }
+{
+    let cubed = cube(k);
+    WeightTest {
+        high: cubed / 1073741824,
+        low: cubed % 1073741824,
+        limit: limit,
+    }
+}
+
+// Does W pass?
+fn passes(test: WeightTest, w: u64) -> bool
+    requires { ⌜ Bounds test × (w ≤ 65538) ⌝ }
+    ensures { λ r. ⌜ r ≡ passing test w ⌝ }
+{
+    let square = w * w;
+    square * test.high + (square * test.low + 1073741823) / 1073741824 <= test.limit
+}
+
+// The largest W that passes, by bisection: `low` passes, `high` does not.
+fn most(test: WeightTest) -> u64
+    requires { ⌜ Bounds test ⌝ }
+    ensures { λ r. ⌜ IsMost test r ⌝ }
+{
+    let mut low: u64 = 0;
+    let mut high: u64 = 65537;
+    while low + 1 < high {
+        let middle = low + (high - low) / 2;
+        if passes(test, middle) {
+            low = middle;
+        } else {
+            high = middle;
+        }
+    }
+    low
+}
+
+// The guess, or the next number where that passes.
+fn stepped_up(test: WeightTest, guess: u64) -> u64
+    requires { ⌜ Bounds test × (guess ≤ 65536) ⌝ }
+    ensures { λ r. ⌜ r ≤ 65537 ⌝ }
+{
+    if passes(test, guess + 1) {
+        guess + 1
+    } else {
+        guess
+    }
+}
+
+// The largest W that passes, whatever the guess; at once where the guess is it, or one less.
+fn most_near(test: WeightTest, guess: u64) -> u64
+    requires { ⌜ Bounds test × (guess ≤ 65536) ⌝ }
+    ensures { λ r. ⌜ IsMost test r ⌝ }
+{
+    let w = stepped_up(test, guess);
+    if passes(test, w) {
+        if !passes(test, w + 1) {
+            return w;
+        }
+    }
+    most(test)
+}
+
+// K = A² + p² + q², by the sizes of p and q.
+fn length_squared(size: u64, p: u64, q: u64) -> u64
+    requires { ⌜ (size ≤ 512) × (p < size) × (q < size) ⌝ }
+    ensures { λ r. ⌜ (r ≡ lengthSquared size p q) × (size * size ≤ r) × (r < 3 * (size * size)) × (r ≤ 786432) ⌝ }
+{
+    size * size + p * p + q * q
+}
+
+// The weight by the sizes of p and q, whatever the guess.
+fn weight_of(size: u64, p: u64, q: u64, guess: u64) -> u64
+    requires { ⌜ (1 ≤ size) × (size ≤ 512) × (p < size) × (q < size) × (guess ≤ 65536) ⌝ }
+    ensures { λ r. ⌜ r ≡ weightOf size p q ⌝ }
+{
+    let limit = 4 * cube(size * size);
+    most_near(test_of(limit, length_squared(size, p, q)), guess)
+}
+
+// A number cut to the largest weight.
+fn cut(x: u64) -> u64
+    ensures { λ r. ⌜ r ≤ 65536 ⌝ }
+{
+    if x <= 65536 { x } else { 65536 }
+}
+
+// A guess at the weight where K is k, by the weight where it is `other`: a weight goes with K^(−3/2), and for near numbers (other / k)^(3/2) is
+// very nearly (5·other − k) / (5·k − other).
+fn guess_from(weight: u64, other: u64, k: u64) -> u64
+    requires { ⌜ (k < 5 * other) × (other < 5 * k) × (k ≤ 786432) × (other ≤ 786432) ⌝ }
+    ensures { λ r. ⌜ r ≤ 65536 ⌝ }
+{
+    cut(cut(weight) * (5 * other - k) / (5 * k - other))
+}
+
+// The row before, where there is one.
+fn row_before(row: u64) -> u64
+    ensures { λ r. ⌜ r ≤ row ⌝ }
+{
+    if row == 0 { 0 } else { row - 1 }
+}
+
+// The weights of a row. What the table held before serves as guesses: the weights of the row before. Opposite columns have the same weight.
+fn weigh_row(size: u64, row: u64, weights: &mut [u64; 512])
+    requires { ⌜ (1 ≤ size) × (size ≤ 512) × (row < size) × (length (now weights) ≡ 512) ⌝ }
+    ensures { λ _. ⌜ Weighed size row (now (weights .exit)) × (length (now (weights .exit)) ≡ 512) ⌝ }
+{
+    let q = offset(size, row);
+    let q_before = offset(size, row_before(row));
+    let mut column: u64 = 0;
+    let mut opposite: u64 = size;
+    while column < opposite {
+        opposite -= 1;
+        let p = opposite - column;
+        let k = length_squared(size, p, q);
+        let other = length_squared(size, p, q_before);
+        let guess = guess_from(weights[column as usize], other, k);
+        let weight = weight_of(size, p, q, guess);
+        weights[column as usize] = weight;
+        weights[opposite as usize] = weight;
+        column += 1;
+    }
+}
+
+// ---- the sums
+
+// W × squared difference.
+fn weighted(weight: u64, x: u64, y: u64) -> u64
+    requires { ⌜ (weight ≤ 65536) × (x < 4096) × (y < 4096) ⌝ }
+    ensures { λ r. ⌜ (r ≡ weight * squaredDifference x y) × (r ≤ 1098974822400) ⌝ }
+{
+    let d = x as i64 - y as i64;
+    weight * ((d * d) as u64)
+}
+
+// The error sum of a row of a face.
+fn face_error(
+    size: u64,
+    first: &[u8],
+    first_steps: FaceSteps,
+    second: &[u8],
+    second_steps: FaceSteps,
+    weights: &[u64; 512],
+    row: u64,
+) -> u64
+    requires { ⌜ ScoredFace size (now first) «first_steps» × ScoredFace size (now second) «second_steps» ⌝ }
+    requires { ⌜ Weighed size row (now weights) × (1 ≤ size) × (row < size) ⌝ }
+    ensures { λ r. ⌜ (r ≡ faceError size (now (first .entry)) «first_steps» (now (second .entry)) «second_steps» (now (weights .entry)) row)
+        × (r ≤ 562675109068800) ⌝ }
+{
+    let mut error: u64 = 0;
+    let mut column: u64 = 0;
+    while column < size {
+        let x = indices::sample_by_steps(first, size, first_steps, column, row);
+        let y = indices::sample_by_steps(second, size, second_steps, column, row);
+        error += weighted(weights[column as usize], x, y);
+        column += 1;
+    }
+    error
+}
+
+// The error sum of a row of all six faces.
+fn faces_error(
+    size: u64,
+    first: &[u8],
+    first_steps: &[i64; 18],
+    second: &[u8],
+    second_steps: &[i64; 18],
+    weights: &[u64; 512],
+    row: u64,
+) -> u64
+    requires { ⌜ ScoredPlane size (now first) (now «first_steps») × ScoredPlane size (now second) (now «second_steps») ⌝ }
+    requires { ⌜ Weighed size row (now weights) × (row < size) ⌝ }
+    ensures { λ r. ⌜ (r ≡ facesError size (now (first .entry)) (now («first_steps» .entry)) (now (second .entry)) (now («second_steps» .entry))
+        (now (weights .entry)) row) × (r ≤ 3376050654412800) ⌝ }
+{
+    let mut error: u64 = 0;
+    let mut face: u64 = 0;
+    while face < 6 {
+        let from = indices::steps_at(first_steps, face);
+        let to = indices::steps_at(second_steps, face);
+        error += face_error(size, first, from, second, to, weights, row);
+        face += 1;
+    }
+    error
+}
+
+// The sum of the weights of a row.
+fn row_weight(size: u64, weights: &[u64; 512], row: u64) -> u64
+    requires { ⌜ Weighed size row (now weights) × (1 ≤ size) × (size ≤ 512) ⌝ }
+    ensures { λ r. ⌜ (r ≡ sumBelow (λ m. getD (now (weights .entry)) m 0) size) × (r ≤ 33554432) ⌝ }
+{
+    let mut sum: u64 = 0;
+    let mut column: u64 = 0;
+    while column < size {
+        sum += weights[column as usize];
+        column += 1;
+    }
+    sum
+}
+
+// The two sums of two planes, whose samples are found by steps. The six faces have the same weights, so a row's are found once.
+fn score_planes(
+    size: u64,
+    first: &[u8],
+    first_steps: &[i64; 18],
+    second: &[u8],
+    second_steps: &[i64; 18],
+) -> Scored
+    requires { ⌜ ScoredPlane size (now first) (now «first_steps») × ScoredPlane size (now second) (now «second_steps») ⌝ }
+    ensures { λ r. ⌜ ((format : Format) → r ≡ Scored.Sums
+        (errorSum format size (sampleBy (now (first .entry)) (now («first_steps» .entry))) (sampleBy (now (second .entry)) (now («second_steps» .entry))))
+        (weightSum format size)) ⌝ }
+{
+    let mut weights = [0; 512];
+    let mut errors: u64 = 0;
+    let mut sum: u64 = 0;
+    let mut row: u64 = 0;
+    while row < size {
+        weigh_row(size, row, &mut weights);
+        errors += faces_error(
+            size,
+            first,
+            first_steps,
+            second,
+            second_steps,
+            &weights,
+            row,
+        );
+        sum += row_weight(size, &weights, row);
+        row += 1;
+    }
+    Scored::Sums {
+        errors: errors,
+        weights: 6 * sum,
+    }
+}
+
+// The two sums of two frames, where no question ended the call.
+fn score_frames(
+    shape: Shape,
+    first_layout: &[u8],
+    second_layout: &[u8],
+    first: &[u8],
+    second: &[u8],
+) -> Scored
+    requires { ⌜ ScorePassed (scoreSettings shape (now «first_layout») (now «second_layout»)) (now first) (now second) ⌝ }
+    ensures { λ r. ⌜ ((format : Format) → r ≡ Scored.Sums
+        (errorSum format (shape .size) (sampleAtPlace (now (first .entry)) (shape .size) (now («first_layout» .entry)))
+        (sampleAtPlace (now (second .entry)) (shape .size) (now («second_layout» .entry))))
+        (weightSum format (shape .size))) ⌝ }
+{
+    let size = shape.size;
+    let first_steps = indices::face_steps(size, frame::layout_of(first_layout));
+    let second_steps = indices::face_steps(size, frame::layout_of(second_layout));
+    score_planes(size, first, &first_steps, second, &second_steps)
+}
+
+// Scores two frames.
+pub fn score(
+    shape: Shape,
+    first_layout: &[u8],
+    second_layout: &[u8],
+    first: &[u8],
+    second: &[u8],
+) -> Scored
+    ensures { λ r. ⌜ scoredMeans r ≡ scoreResult (scoreSettings shape (now («first_layout» .entry)) (now («second_layout» .entry)))
+        (now (first .entry)) (now (second .entry)) ⌝ }
+{
+    if !frame::size_ok(shape.size) {
+        return Scored::Refused(Refusal::FaceSize);
+    }
+    if !frame::depth_ok(shape.depth) {
+        return Scored::Refused(Refusal::Depth);
+    }
+    if !frame::code_ok(shape.format) {
+        return Scored::Refused(Refusal::Code);
+    }
+    if !frame::layouts_ok(first_layout, second_layout) {
+        return Scored::Refused(Refusal::Layout);
+    }
+    if !frame::length_ok(shape, first.len()) {
+        return Scored::Refused(Refusal::FirstLength);
+    }
+    if !frame::length_ok(shape, second.len()) {
+        return Scored::Refused(Refusal::SecondLength);
+    }
+    if !frame::samples_ok(shape, first) {
+        let index = frame::lowest_beyond(shape, first) as u32;
+        return Scored::Refused(Refusal::FirstSample(index));
+    }
+    if !frame::samples_ok(shape, second) {
+        let index = frame::lowest_beyond(shape, second) as u32;
+        return Scored::Refused(Refusal::SecondSample(index));
+    }
+    score_frames(shape, first_layout, second_layout, first, second)
+}
