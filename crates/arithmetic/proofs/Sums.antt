@@ -2,14 +2,14 @@
 use mathlib.Core.Path.{_≡_, refl, sym, _∙_, ap, ap₂, subst}
 use mathlib.Core.Logic.{_≢_}
 use mathlib.Core.Bool.{Bool, true, false, cond}
-use Prim.Native.Nat.{ℕ, zero, suc, _+_, _*_, _/_, _%_, _≤_, _<_}
+use Prim.Native.Nat.{ℕ, zero, suc, _+_, _*_, _-_, _/_, _%_, _≤_, _<_}
 use native.Mathlib.Nat.{add-zero, add-suc}
 use native.Mathlib.Numerals.{add-one}
 use native.Mathlib.Decide.{ℕ-discrete}
 use native.Mathlib.Omega.{arith}
-use lib.Dec.{T, eqb, eqb→eq, eqb-refl}
+use lib.Dec.{T, ltb, ltb→lt, lt→ltb, eqb, eqb→eq, eqb-refl}
 use lib.Arith.{digits-div, digits-mod}
-use Rattle.arithmetic.specs.Sums.{sumBelow, countBelow}
+use Rattle.arithmetic.specs.Sums.{sumBelow, bothTerms, countBelow}
 use Rattle.arithmetic.proofs.Tests.{cond-true, cond-false}
 
 -- ---- sums
@@ -57,6 +57,12 @@ sum-swap zero m a = sym (sum-zero m)
 sum-swap (suc n) m a =
     ap (λ x. x + sumBelow (λ k. a n k) m) (sum-swap n m a) ∙ sym (sum-add m (λ k. sumBelow (λ i. a i k) n) (λ k. a n k))
 
+-- the first term apart
+pub sum-first : (f : ℕ → ℕ) (n : ℕ) → sumBelow f (suc n) ≡ f 0 + sumBelow (λ i. f (suc i)) n
+unfolding sumBelow
+sum-first f zero = omega arith
+sum-first f (suc n) = omega (arith, sum-first f n)
+
 -- a sum over m + n numbers
 pub sum-split : (f : ℕ → ℕ) (m n : ℕ) → sumBelow f (m + n) ≡ sumBelow f m + sumBelow (λ i. f (m + i)) n
 unfolding sumBelow
@@ -80,6 +86,53 @@ sum-flat (suc a) b h =
 
     more : (a b : ℕ) → a * b + b ≡ suc a * b
     more a b = omega arith
+
+-- ---- a sum from both ends
+
+pub both-cong : (f g : ℕ → ℕ) (i j : ℕ) → f i ≡ g i → f j ≡ g j → bothTerms f i j ≡ bothTerms g i j
+both-cong f g i j p q = ap₂ (λ x y. x + cond (ltb i j) y 0) p q
+
+module _ (f : ℕ → ℕ) where
+  pub both-apart : (i j : ℕ) → i < j → f i + f j ≡ bothTerms f i j
+  both-apart i j h = ap (λ x. f i + x) (sym (cond-true (ltb i j) (f j) 0 (lt→ltb i j h)))
+
+  pub both-same : (i j : ℕ) → (i < j → ⊥) → f i ≡ bothTerms f i j
+  both-same i j h = sym (add-zero (f i)) ∙ ap (λ x. f i + x) (sym (cond-false (ltb i j) (f j) 0 (λ t. h (ltb→lt i j t))))
+
+  -- the terms i and n − 1 − i
+  abbrev ends : ℕ → ℕ → ℕ
+  ends n i = bothTerms f i (n - suc i)
+
+  -- k terms at each end
+  ends-apart : (n k : ℕ) → 2 * k ≤ n → sumBelow (ends n) k ≡ sumBelow f k + sumBelow (λ i. f (n - k + i)) k
+  unfolding sumBelow
+  ends-apart n zero h = refl
+  ends-apart n (suc k) h =
+      ap₂ _+_ (ends-apart n k (omega arith)) (sym (both-apart k (n - suc k) (omega arith)))
+      ∙ omega (
+        arith,
+        sum-first (λ i. f (n - suc k + i)) k,
+        ap f (add-zero (n - suc k)),
+        sum-cong k (λ i. f (n - k + i)) (λ i. f (n - suc k + suc i)) (λ i l. ap f (omega arith)),
+      )
+
+  -- all terms
+  pub sum-ends : (n k : ℕ) → n ≤ 2 * k → 2 * k ≤ n + 1 → sumBelow (ends n) k ≡ sumBelow f n
+  unfolding sumBelow
+  sum-ends n zero h l = ap (sumBelow f) (none n h)
+    where
+      none : (n : ℕ) → n ≤ 2 * 0 → 0 ≡ n
+      none n h = omega arith
+  sum-ends n (suc k) h l = go (ℕ-discrete n (2 * suc k))
+    where
+      join : (j m : ℕ) → n - m ≡ j → j + m ≡ n → sumBelow f j + sumBelow (λ i. f (n - m + i)) m ≡ sumBelow f n
+      join j m e d = ap (λ x. sumBelow f j + sumBelow (λ i. f (x + i)) m) e ∙ sym (sum-split f j m) ∙ ap (sumBelow f) d
+
+      go : Dec (n ≡ 2 * suc k) → sumBelow (ends n) k + ends n k ≡ sumBelow f n
+      go (yes e) = ends-apart n (suc k) (omega arith) ∙ join (suc k) (suc k) (omega arith) (omega arith)
+      go (no d) =
+          ap₂ _+_ (ends-apart n k (omega arith)) (sym (both-same k (n - suc k) (λ m. omega arith)))
+          ∙ omega (arith, join (suc k) k (omega arith) (omega arith))
 
 -- ---- a sum with one term
 

@@ -119,6 +119,10 @@ pub record Symmetric (A : ℕ) (w : ℕ → ℕ → ℕ) : Type 0 where
   pub swap : (m n : ℕ) → w m n ≡ w n m
   pub mirror : (m n : ℕ) → m < A → w (A - suc m) n ≡ w m n
 
+-- and at the opposite row
+pub mirror-row : {A : ℕ} {w : ℕ → ℕ → ℕ} → Symmetric A w → (m n : ℕ) → n < A → w m (A - suc n) ≡ w m n
+mirror-row {A} s m n h = s .swap m (A - suc n) ∙ s .mirror n m h ∙ s .swap n m
+
 pub weight-symmetric : (format : Format) (A : ℕ) → Symmetric A (weight format A)
 unfolding weight weightOf
 weight-symmetric format A = record {

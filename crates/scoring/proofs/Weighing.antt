@@ -8,13 +8,13 @@ use native.Mathlib.Omega.{arith}
 use lib.IntN.{ℤ, natAbs}
 use lib.ListN.{length, getD, set, length-set}
 use lib.Seq.{getD-set-same, getD-set-other}
-use Rattle.arithmetic.specs.Sums.{sumBelow}
-use Rattle.arithmetic.proofs.Sums.{sum-cong}
+use Rattle.arithmetic.specs.Sums.{sumBelow, bothTerms}
+use Rattle.arithmetic.proofs.Sums.{sum-cong, both-cong}
 use Rattle.cubemap.specs.declared.Format.{Format}
 use Rattle.cubemap.specs.PlaceToRay.{fromCentre}
 use Rattle.cubemap.specs.Score.{weightOf, weight, squaredDifference}
 use Rattle.cubemap.proofs.FaceCoordinates.{fromCentre-left}
-use Rattle.cubemap.proofs.Weights.{IsWeight, weightOf-is, weight-only, weight-most, weight-symmetric}
+use Rattle.cubemap.proofs.Weights.{IsWeight, weightOf-is, weight-only, weight-most, weight-symmetric, mirror-row}
 use Rattle.cubemap.proofs.Scores.{rowErrors}
 use Rattle.indices.specs.Steps.{stepsIn, sampleBySteps, sampleBy}
 use Rattle.scoring.specs.Rows.{Weighed, faceError, facesError}
@@ -79,6 +79,10 @@ filled-all {A} {n} {column} {opposite} {weights} f h = record { entry = λ forma
     go format m l (yes k) = f .left format m k
     go format m l (no k) = f .right format m (omega arith) l
 
+-- the opposite row has the same weights
+pub weighed-mirror : {A n : ℕ} {weights : List ℕ} → Weighed A n weights → n < A → Weighed A (A - suc n) weights
+weighed-mirror {A} {n} w h = record { entry = λ format m l. w .entry format m l ∙ sym (mirror-row (weight-symmetric format A) m n h) }
+
 -- ---- the sums of a row by its table
 
 module _ {A n : ℕ} {weights : List ℕ} (w : Weighed A n weights) (format : Format) where
@@ -95,3 +99,17 @@ module _ {A n : ℕ} {weights : List ℕ} (w : Weighed A n weights) (format : Fo
 
       term : ℕ → ℕ → ℕ
       term f m = weight format A m n * squares f m
+
+-- and of a row with the opposite one
+module _ {A n : ℕ} {weights : List ℕ} (w : Weighed A n weights) (h : n < A) (format : Format) where
+  pub both-weights : bothTerms (λ i. sumBelow (λ m. getD weights m 0) A) n (A - suc n)
+      ≡ bothTerms (λ i. sumBelow (λ m. weight format A m i) A) n (A - suc n)
+  both-weights = both-cong (λ i. sumBelow (λ m. getD weights m 0) A) (λ i. sumBelow (λ m. weight format A m i) A) n (A - suc n)
+      (row-weights w format) (row-weights (weighed-mirror w h) format)
+
+  pub both-errors : (first : List ℕ) (s : List ℤ) (second : List ℕ) (t : List ℤ)
+      → bothTerms (facesError A first s second t weights) n (A - suc n)
+      ≡ bothTerms (rowErrors format A (sampleBy first s) (sampleBy second t)) n (A - suc n)
+  both-errors first s second t =
+      both-cong (facesError A first s second t weights) (rowErrors format A (sampleBy first s) (sampleBy second t)) n (A - suc n)
+      (row-errors w format first s second t) (row-errors (weighed-mirror w h) format first s second t)

@@ -1,9 +1,9 @@
 // Score: questions 1, 3, 4, 5 and 8 to 11 in order, and then the two sums.
 ghost use mathlib.Core.Path.{_≡_};
-ghost use Prim.Native.Nat.{ℕ, _+_, _*_, _^_, _≤_, _<_};
+ghost use Prim.Native.Nat.{ℕ, suc, _+_, _*_, _-_, _^_, _≤_, _<_};
 ghost use lib.IntN.{natAbs};
 ghost use lib.ListN.{length, getD};
-ghost use Rattle.arithmetic.specs.Sums.{sumBelow};
+ghost use Rattle.arithmetic.specs.Sums.{sumBelow, bothTerms};
 ghost use Rattle.cubemap.specs.declared.Format.{Format};
 ghost use Rattle.cubemap.specs.Frames.{sampleAtPlace};
 ghost use Rattle.cubemap.specs.PlaceToRay.{fromCentre};
@@ -236,6 +236,38 @@ fn faces_error(
     error
 }
 
+// The error sum of a row and of the opposite one, which has the same weights; of the one row where they are the same.
+fn rows_error(
+    size: u64,
+    first: &[u8],
+    first_steps: &[i64; 18],
+    second: &[u8],
+    second_steps: &[i64; 18],
+    weights: &[u64; 512],
+    row: u64,
+    opposite: u64,
+) -> u64
+    requires { ⌜ ScoredPlane size (now first) (now «first_steps») × ScoredPlane size (now second) (now «second_steps») ⌝ }
+    requires { ⌜ Weighed size row (now weights) × (opposite ≡ size - suc row) × (row < size) ⌝ }
+    ensures { λ r. ⌜ (r ≡ bothTerms (facesError size (now (first .entry)) (now («first_steps» .entry)) (now (second .entry)) (now («second_steps» .entry))
+        (now (weights .entry))) row opposite) × (r ≤ 6752101308825600) ⌝ }
+{
+    let error = faces_error(size, first, first_steps, second, second_steps, weights, row);
+    if row < opposite {
+        return error
+            + faces_error(
+                size,
+                first,
+                first_steps,
+                second,
+                second_steps,
+                weights,
+                opposite,
+            );
+    }
+    error
+}
+
 // The sum of the weights of a row.
 fn row_weight(size: u64, weights: &[u64; 512], row: u64) -> u64
     requires { ⌜ Weighed size row (now weights) × (1 ≤ size) × (size ≤ 512) ⌝ }
@@ -250,7 +282,19 @@ fn row_weight(size: u64, weights: &[u64; 512], row: u64) -> u64
     sum
 }
 
-// The two sums of two planes, whose samples are found by steps. The six faces have the same weights, so a row's are found once.
+// The sum of the weights of a row and of the opposite one, which has the same; of the one row where they are the same.
+fn rows_weight(size: u64, weights: &[u64; 512], row: u64, opposite: u64) -> u64
+    requires { ⌜ Weighed size row (now weights) × (1 ≤ size) × (size ≤ 512) ⌝ }
+    ensures { λ r. ⌜ (r ≡ bothTerms (λ _. sumBelow (λ m. getD (now (weights .entry)) m 0) size) row opposite) × (r ≤ 67108864) ⌝ }
+{
+    let sum = row_weight(size, weights, row);
+    if row < opposite {
+        return sum + sum;
+    }
+    sum
+}
+
+// The two sums of two planes, whose samples are found by steps. The weights of a row are found once for all six faces and the opposite row.
 fn score_planes(
     size: u64,
     first: &[u8],
@@ -267,9 +311,11 @@ fn score_planes(
     let mut errors: u64 = 0;
     let mut sum: u64 = 0;
     let mut row: u64 = 0;
-    while row < size {
+    let mut opposite: u64 = size;
+    while row < opposite {
+        opposite -= 1;
         weigh_row(size, row, &mut weights);
-        errors += faces_error(
+        errors += rows_error(
             size,
             first,
             first_steps,
@@ -277,8 +323,9 @@ fn score_planes(
             second_steps,
             &weights,
             row,
+            opposite,
         );
-        sum += row_weight(size, &weights, row);
+        sum += rows_weight(size, &weights, row, opposite);
         row += 1;
     }
     Scored::Sums {
