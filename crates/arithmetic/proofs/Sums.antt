@@ -51,6 +51,12 @@ unfolding sumBelow
 sum-bounded zero b f h = omega arith
 sum-bounded (suc n) b f h = omega (arith, sum-bounded n b f (λ i l. h i (omega arith)), h n (omega arith))
 
+-- n terms of at least b
+pub sum-least : (n b : ℕ) (f : ℕ → ℕ) → ((i : ℕ) → i < n → b ≤ f i) → n * b ≤ sumBelow f n
+unfolding sumBelow
+sum-least zero b f h = omega arith
+sum-least (suc n) b f h = omega (arith, sum-least n b f (λ i l. h i (omega arith)), h n (omega arith))
+
 pub sum-swap : (n m : ℕ) (a : ℕ → ℕ → ℕ) → sumBelow (λ i. sumBelow (λ k. a i k) m) n ≡ sumBelow (λ k. sumBelow (λ i. a i k) n) m
 unfolding sumBelow
 sum-swap zero m a = sym (sum-zero m)

@@ -2,7 +2,7 @@
 use mathlib.Core.Path.{_≡_, refl, sym, _∙_, ap, subst}
 use Prim.Native.Nat.{ℕ, _*_, _/_, _%_, _≤_}
 use Rattle.arithmetic.specs.Sums.{sumBelow}
-use Rattle.arithmetic.proofs.Sums.{sum-cong, sum-bounded, sum-flat, sum-reorder, Bijection}
+use Rattle.arithmetic.proofs.Sums.{sum-cong, sum-bounded, sum-least, sum-flat, sum-reorder, Bijection}
 use Rattle.cubemap.specs.declared.Place.{Place}
 use Rattle.cubemap.specs.Frames.{place, IsPlace, planeSamples, placeNumbered}
 use Rattle.cubemap.specs.Score.{overPlaces}
@@ -69,3 +69,8 @@ over-step A to back m g =
 pub over-bounded : (A b : ℕ) (g : Place → ℕ) → ((P : Place) → IsPlace A P → g P ≤ b) → overPlaces A g ≤ planeSamples A * b
 over-bounded A b g h = subst (λ n. n ≤ planeSamples A * b) (sym (over-numbered A g))
     (sum-bounded (planeSamples A) b (λ k. g (placeNumbered A k)) (λ k l. h (placeNumbered A k) (numbered-ok A k l)))
+
+-- and of at least b
+pub over-least : (A b : ℕ) (g : Place → ℕ) → ((P : Place) → IsPlace A P → b ≤ g P) → planeSamples A * b ≤ overPlaces A g
+over-least A b g h = subst (λ n. planeSamples A * b ≤ n) (sym (over-numbered A g))
+    (sum-least (planeSamples A) b (λ k. g (placeNumbered A k)) (λ k l. h (placeNumbered A k) (numbered-ok A k l)))

@@ -1,43 +1,38 @@
--- A score: its sums row by row, its checks one by one, and its result by the answer. And what it depends on: of each frame what the checks see, and the
+-- A score: its sums row by row and how large they are, its checks one by one, and its result by the answer. And what it depends on: of each frame what the checks see, and the
 -- error sum, which stays where both frames' samples move alike to places of the same weight.
 use mathlib.Core.Path.{_≡_, refl, sym, _∙_, ap, ap₂, subst}
-use mathlib.Core.Bool.{_&&_, cond}
+use mathlib.Core.Bool.{Bool, true, false, _&&_, cond}
 use mathlib.Core.List.{List, [], _∷_}
-use Prim.Native.Nat.{ℕ, _+_, _*_, _≤_}
+use Prim.Native.Nat.{ℕ, _*_, _^_, _≤_, _<_}
 use native.Mathlib.Nat.{mul-le-mul}
 use native.Mathlib.Omega.{arith}
 use lib.Dec.{T}
-use lib.IntN.{ℤ, pos, _-ℤ_, _*ℤ_}
+use lib.IntN.{ℤ}
 use lib.ListN.{length}
 use Rattle.arithmetic.specs.Sums.{sumBelow}
-use Rattle.arithmetic.proofs.Sizes.{square, difference-small}
+use Rattle.arithmetic.proofs.Sizes.{difference-small}
 use Rattle.arithmetic.proofs.Sums.{sum-swap, sum-same}
+use Rattle.arithmetic.proofs.Tests.{cond-both}
 use Rattle.cubemap.specs.declared.Format.{Format}
 use Rattle.cubemap.specs.declared.Place.{Place}
 use Rattle.cubemap.specs.declared.Refusal.{Refusal}
 use Rattle.cubemap.specs.declared.Shape.{Shape}
 use Rattle.cubemap.specs.Interface.{formatOf, Answer, accepted, isAccepted}
-use Rattle.cubemap.specs.Frames.{place, IsPlace, sampleAtPlace}
+use Rattle.cubemap.specs.Frames.{place, IsPlace, planeSamples, sampleAtPlace}
 use Rattle.cubemap.specs.Score.{weight, difference, squaredDifference, overPlaces, errorSum, weightSum}
 use Rattle.cubemap.specs.Checks.{ScoreSettings, scoreSettings, Check, check, samplesCheck, firstFailed, sizeOK, depthOK, codeOK, layoutOK, lengthOK}
 use Rattle.cubemap.specs.Checks.{samplesOK, lowestBeyond, scoreChecks}
 use Rattle.cubemap.specs.Outcomes.{result, refusal, refused, ifAccepted, scoreValues, scoreResult}
 use Rattle.cubemap.proofs.Answers.{not-accepted}
 use Rattle.cubemap.proofs.Passed.{Remaining, ScorePassed, score-passed}
-use Rattle.cubemap.proofs.Places.{OneToOne, same-places, over-cong, over-step}
-use Rattle.cubemap.proofs.Weights.{Level, weight-symmetric}
+use Rattle.cubemap.proofs.Places.{OneToOne, same-places, over-cong, over-step, over-bounded, over-least}
+use Rattle.cubemap.proofs.Weights.{Level, weight-symmetric, weight-most, weight-least}
 
 -- ---- one squared difference
 
-pub squared-is : (x y : ℕ) → (pos x -ℤ pos y) *ℤ (pos x -ℤ pos y) ≡ pos (squaredDifference x y)
+pub squared-is : (x y : ℕ) → squaredDifference x y ≡ difference x y * difference x y
 unfolding squaredDifference
-squared-is x y = square (pos x -ℤ pos y)
-
-pub squared-bounded : (B x y : ℕ) → x ≤ B → y ≤ B → squaredDifference x y ≤ B * B
-unfolding squaredDifference
-squared-bounded B x y h k =
-    let d : difference x y ≤ B = difference-small x y B (omega arith) (omega arith) in
-    mul-le-mul d d
+squared-is x y = refl
 
 -- ---- the sums, row by row
 
@@ -56,6 +51,27 @@ module _ (format : Format) (A : ℕ) where
   pub weights-by-rows : weightSum format A ≡ 6 * sumBelow (λ n. sumBelow (λ m. weight format A m n) A) A
   unfolding weightSum overPlaces
   weights-by-rows = sum-same 6 (sumBelow (λ n. sumBelow (λ m. weight format A m n) A) A)
+
+  -- ---- how large they are: the sum of the weights is never 0, and an error sum fits 61 bits
+
+  pub weight-sum-least : 1 ≤ A → planeSamples A * 12612 ≤ weightSum format A
+  unfolding weightSum
+  weight-sum-least a = over-least A 12612 (λ P. weight format A (P .column) (P .row))
+      (λ P p. weight-least format A (P .column) (P .row) a (p .column-ok) (p .row-ok))
+
+  pub error-sum-most : (first second : Place → ℕ) → 1 ≤ A → A ≤ 512 → ((P : Place) → IsPlace A P → first P < 4096)
+      → ((P : Place) → IsPlace A P → second P < 4096) → errorSum format A first second < 2 ^ 61
+  unfolding errorSum squaredDifference
+  error-sum-most first second a b f g = omega (arith, sum, mul-le-mul b b)
+    where
+      term : (P : Place) → IsPlace A P → weight format A (P .column) (P .row) * squaredDifference (first P) (second P) ≤ 65536 * (4095 * 4095)
+      term P p =
+          let d : difference (first P) (second P) ≤ 4095 =
+          difference-small (first P) (second P) 4095 (omega (arith, f P p)) (omega (arith, g P p)) in
+          mul-le-mul (weight-most format A (P .column) (P .row) a) (mul-le-mul d d)
+
+      sum : errorSum format A first second ≤ planeSamples A * (65536 * (4095 * 4095))
+      sum = over-bounded A (65536 * (4095 * 4095)) (λ P. weight format A (P .column) (P .row) * squaredDifference (first P) (second P)) term
 
 -- ---- the error sum of other frames
 
@@ -76,6 +92,45 @@ module _ (format : Format) (A : ℕ) (to back : Place → Place) (m : OneToOne A
 pub error-cong : (format : Format) (A : ℕ) (first second first′ second′ : Place → ℕ) → ((P : Place) → IsPlace A P → first′ P ≡ first P)
     → ((P : Place) → IsPlace A P → second′ P ≡ second P) → errorSum format A first′ second′ ≡ errorSum format A first second
 error-cong format A = error-moved format A (λ P. P) (λ Q. Q) (same-places A) (λ P p w s. refl)
+
+-- ---- the error sum with columns and rows exchanged on some faces
+
+-- the place with column and row exchanged, but on the faces that are kept
+abbrev pub exchangedOn : (ℕ → Bool) → Place → Place
+exchangedOn keep P = cond (keep (P .face)) P (place (P .face) (P .row) (P .column))
+
+module _ (A : ℕ) (keep : ℕ → Bool) where
+  exchanged-ok : (P : Place) → IsPlace A P → IsPlace A (exchangedOn keep P)
+  exchanged-ok P p = cond-both (IsPlace A) (keep (P .face)) P (place (P .face) (P .row) (P .column))
+      (λ t. p) (λ t. record { face-ok = p .face-ok; column-ok = p .row-ok; row-ok = p .column-ok })
+
+  exchanged-twice : (P : Place) → exchangedOn keep (exchangedOn keep P) ≡ P
+  exchanged-twice P = go (keep (P .face)) refl
+    where
+      go : (b : Bool) → keep (P .face) ≡ b → exchangedOn keep (cond b P (place (P .face) (P .row) (P .column))) ≡ P
+      go true e = rw e
+      go false e = rw e
+
+  exchanged-once : OneToOne A (exchangedOn keep) (exchangedOn keep)
+  exchanged-once = record {
+    to-ok = exchanged-ok;
+    back-ok = exchanged-ok;
+    back-to = λ P p. exchanged-twice P;
+    to-back = λ Q q. exchanged-twice Q;
+  }
+
+  exchanged-level : (P : Place) → IsPlace A P → Level A P (exchangedOn keep P)
+  exchanged-level P p w s = go (keep (P .face))
+    where
+      go : (b : Bool) → let Q : Place = cond b P (place (P .face) (P .row) (P .column)) in w (P .column) (P .row) ≡ w (Q .column) (Q .row)
+      go true = refl
+      go false = s .swap (P .column) (P .row)
+
+  -- where each frame has at P what it had at the place with column and row exchanged
+  pub error-exchanged : (format : Format) (first second first′ second′ : Place → ℕ)
+      → ((P : Place) → IsPlace A P → first′ P ≡ first (exchangedOn keep P))
+      → ((P : Place) → IsPlace A P → second′ P ≡ second (exchangedOn keep P)) → errorSum format A first′ second′ ≡ errorSum format A first second
+  error-exchanged format = error-moved format A (exchangedOn keep) (exchangedOn keep) exchanged-once exchanged-level
 
 -- ---- the checks, and the result by the answer
 

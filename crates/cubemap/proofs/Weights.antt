@@ -24,7 +24,7 @@ use Rattle.cubemap.specs.Frames.{IsPlace}
 use Rattle.cubemap.specs.PlaceToRay.{fromCentre, scale, faceCoordinate, rayOf}
 use Rattle.cubemap.specs.Rotations.{sumOfSquares, CubeRotation}
 use Rattle.cubemap.specs.Score.{weightOf, weight}
-use Rattle.cubemap.proofs.FaceCoordinates.{fromCentre-mirror, Coordinates}
+use Rattle.cubemap.proofs.FaceCoordinates.{fromCentre-mirror, fromCentre-inside, Coordinates}
 use Rattle.cubemap.proofs.Faces.{overSizes, table3-sizes}
 use Rattle.cubemap.proofs.Rotations.{LeadsTo, leads-only}
 use Rattle.cubemap.proofs.CubeRotations.{Order, xyz, xzy, yxz, yzx, zxy, zyx, inOrder, flipped, Permutation, permuted, Permutes, cube-permutes}
@@ -111,6 +111,29 @@ weight-only format A m n W hA g = weightOf-only A (natAbs (fromCentre A m)) (nat
 
 pub weight-most : (format : Format) (A m n : ℕ) → 1 ≤ A → weight format A m n ≤ 65536
 weight-most format A m n hA = passes-bound A (natAbs (fromCentre A m)) (natAbs (fromCentre A n)) (weight format A m n) hA (weight-is format A m n hA .passes)
+
+-- 12,612 passes at every place: K is less than 3·A²
+least-passes : (A p q : ℕ) → p < A → q < A → Passes A p q 12612
+least-passes A p q hp hq = go (omega (arith, cubes, cube (lengthSquared A p q), cube (A * A), sixth A))
+  where
+    square : (r : ℕ) → r < A → r * r ≤ A * A
+    square r h = let l : r ≤ A = omega arith in mul-le-mul l l
+
+    K : ℕ
+    K = lengthSquared A p q
+
+    small : K ≤ 3 * (A * A)
+    small = omega (arith, square p hp, square q hq)
+
+    cubes : K * K * K ≤ 3 * (A * A) * (3 * (A * A)) * (3 * (A * A))
+    cubes = mul-le-mul (mul-le-mul small small) small
+
+    go : K ^ 3 ≤ 27 * A ^ 6 → Passes A p q 12612
+    go h = omega arith
+
+pub weight-least : (format : Format) (A m n : ℕ) → 1 ≤ A → m < A → n < A → 12612 ≤ weight format A m n
+weight-least format A m n hA hm hn = weight-is format A m n hA .most 12612
+    (least-passes A (natAbs (fromCentre A m)) (natAbs (fromCentre A n)) (fromCentre-inside A m hm) (fromCentre-inside A n hn))
 
 -- ---- symmetric, for every format
 

@@ -1,5 +1,6 @@
 -- Base and steps of a face in its slot, turned 0 to 3 times, lead to the index of each of its columns and rows.
-use mathlib.Core.Path.{_≡_, sym, _∙_, ap, subst}
+use mathlib.Core.Path.{_≡_, refl, sym, _∙_, ap, subst}
+use mathlib.Core.Bool.{Bool, true, false, cond}
 use mathlib.Core.List.{List, [], _∷_}
 use Prim.Native.Nat.{ℕ, _+_, _*_, _-_, _/_, _%_, _≤_, _<_}
 use native.Mathlib.Nat.{mul-le-mul}
@@ -11,19 +12,25 @@ use lib.Signed.{nonNeg}
 use Rattle.arithmetic.specs.Integers.{natural}
 use Rattle.arithmetic.proofs.Sizes.{pos-inj, natAbs-neg}
 use Rattle.arithmetic.proofs.Ring.{var, con, _⊕_, _⊗_, ⊖, solve}
+use Rattle.arithmetic.proofs.Tests.{cond-both}
 use Rattle.cubemap.specs.declared.Place.{Place}
 use Rattle.cubemap.specs.Frames.{place, IsPlace, index, sampleAt, sampleAtPlace}
 use Rattle.cubemap.specs.Frames.{planeSamples, spot, quarterTurns, indexInSlot}
 use Rattle.cubemap.proofs.Indices.{Within, quarterTurns-within, no-turn, one-turn, two-turns, three-turns, slot-index, index-below}
+use Rattle.cubemap.proofs.Scores.{exchangedOn}
 use Rattle.indices.specs.declared.FaceSteps.{FaceSteps}
-use Rattle.indices.specs.Steps.{stepped, Steps, stepsIn, LeadsTo, SteppedFace, SteppedPlane, sampleBy}
+use Rattle.indices.specs.Steps.{stepped, Steps, FaceLeads, stepsIn, LeadsTo, exchanged, alongLines, aligned, Aligned}
+use Rattle.indices.specs.Steps.{SteppedFace, SteppedPlane, sampleBySteps, sampleBy}
 
 abbrev pub steps : ℤ → ℤ → ℤ → FaceSteps
 steps base across down = record { base = base; across = across; down = down }
 
 -- the same three numbers
+pub steps-eq : {b d e x y z : ℤ} → b ≡ x → d ≡ y → e ≡ z → steps b d e ≡ steps x y z
+steps-eq p q r = λ i. steps (p i) (q i) (r i)
+
 pub same-steps : {A : ℕ} {at : ℕ → ℕ → ℕ} {b d e x y z : ℤ} → b ≡ x → d ≡ y → e ≡ z → Steps A (steps x y z) at → Steps A (steps b d e) at
-same-steps {A} {at} p q r w = subst (λ t. Steps A t at) (λ i. steps (sym p i) (sym q i) (sym r i)) w
+same-steps {A} {at} p q r w = subst (λ t. Steps A t at) (sym (steps-eq p q r)) w
 
 -- n steps of w back
 back : (y n w : ℕ) → pos (y + n * w) +ℤ pos n *ℤ negℤ (pos w) ≡ pos y
@@ -151,6 +158,50 @@ steps-unbroken {s = s} {at} w e m n p q = pos-inj (at m n) (at 0 n + m)
 pub face-of : {A : ℕ} {plane : List ℕ} {table : List ℤ} → SteppedPlane A plane table → (f : ℕ) → f < 6 → SteppedFace A plane (stepsIn table f)
 face-of p f h = record { size-most = p .size-most; whole = p .whole; leads = p .leads f h }
 
+-- ---- columns and rows exchanged
+
+exchanged-stepped : (s : FaceSteps) (m n : ℕ) → stepped (exchanged s) m n ≡ stepped s n m
+exchanged-stepped s m n =
+    solve (s .base ∷ pos m ∷ s .down ∷ pos n ∷ s .across ∷ []) (var 0 ⊕ var 1 ⊗ var 2 ⊕ var 3 ⊗ var 4) (var 0 ⊕ var 3 ⊗ var 4 ⊕ var 1 ⊗ var 2) tt
+
+exchanged-leads : {A : ℕ} {s : FaceSteps} → FaceLeads A s → FaceLeads A (exchanged s)
+exchanged-leads {A} {s} l = record {
+  base-small = l .base-small;
+  across-small = l .down-small;
+  down-small = l .across-small;
+  gives = λ m n p q. exchanged-stepped s m n ∙ l .gives n m q p ∙ ap (λ z. pos (natural z)) (sym (exchanged-stepped s m n));
+  below = λ m n p q. subst (λ z. natural z < planeSamples A) (sym (exchanged-stepped s m n)) (l .below n m q p);
+}
+
+aligned-leads : {A : ℕ} {s : FaceSteps} (g : FaceSteps) → FaceLeads A s → FaceLeads A (aligned g s)
+aligned-leads {A} {s} g l = cond-both (FaceLeads A) (alongLines g) s (exchanged s) (λ t. l) (λ t. exchanged-leads l)
+
+-- the faces that are left as they are, by a table
+abbrev pub keeps : List ℤ → ℕ → Bool
+keeps guide f = alongLines (stepsIn guide f)
+
+-- what aligned steps read at a place is what the others read at the place with column and row exchanged
+module _ (guide table r : List ℤ) (e : Aligned guide table r) where
+  pub aligned-plane : {A : ℕ} {plane : List ℕ} → SteppedPlane A plane table → SteppedPlane A plane r
+  aligned-plane {A} p = record {
+    size-least = p .size-least;
+    size-most = p .size-most;
+    whole = p .whole;
+    leads = λ f h. subst (FaceLeads A) (sym (e f h)) (aligned-leads (stepsIn guide f) (p .leads f h));
+  }
+
+  pub sample-aligned : (A : ℕ) (plane : List ℕ) (P : Place) → IsPlace A P → sampleBy plane r P ≡ sampleBy plane table (exchangedOn (keeps guide) P)
+  sample-aligned A plane P p =
+      ap (λ s. sampleBySteps plane s (P .column) (P .row)) (e (P .face) (p .face-ok)) ∙ go (keeps guide (P .face))
+    where
+      s : FaceSteps
+      s = stepsIn table (P .face)
+
+      go : (b : Bool) → sampleBySteps plane (cond b s (exchanged s)) (P .column) (P .row)
+          ≡ sampleBy plane table (cond b P (place (P .face) (P .row) (P .column)))
+      go true = refl
+      go false = ap (λ z. sampleAt plane (natural z)) (exchanged-stepped s (P .column) (P .row))
+
 -- ---- a table that leads to the indices of a layout
 
 module _ (A : ℕ) (L : List ℕ) (table : List ℤ) (t : LeadsTo A L table) where
@@ -158,13 +209,11 @@ module _ (A : ℕ) (L : List ℕ) (table : List ℤ) (t : LeadsTo A L table) whe
   to-index : (f m n : ℕ) → f < 6 → m < A → n < A → natural (stepped (stepsIn table f) m n) ≡ index A L (place f m n)
   to-index f m n h p q = ap natural (t f h .gives m n p q)
 
+  pub all-lead : (f : ℕ) → f < 6 → FaceLeads A (stepsIn table f)
+  all-lead f h = steps-cong (λ m n p q. sym (to-index f m n h p q)) (t f h)
+
   pub stepped-plane : {plane : List ℕ} → 1 ≤ A → A ≤ 512 → length plane ≡ 2 * planeSamples A → SteppedPlane A plane table
-  stepped-plane a b e = record {
-    size-least = a;
-    size-most = b;
-    whole = e;
-    leads = λ f h. steps-cong (λ m n p q. sym (to-index f m n h p q)) (t f h);
-  }
+  stepped-plane a b e = record { size-least = a; size-most = b; whole = e; leads = all-lead }
 
   pub sample-by-layout : (plane : List ℕ) (P : Place) → IsPlace A P → sampleBy plane table P ≡ sampleAtPlace plane A L P
   sample-by-layout plane P p = ap (sampleAt plane) (to-index (P .face) (P .column) (P .row) (p .face-ok) (p .column-ok) (p .row-ok))

@@ -1,7 +1,9 @@
 -- The index of a place by a base and two steps: base + m·across + n·down.
 use mathlib.Core.Path.{_≡_}
+use mathlib.Core.Bool.{Bool, cond}
 use mathlib.Core.List.{List}
 use Prim.Native.Nat.{ℕ, _+_, _*_, _≤_, _<_}
+use lib.Dec.{leb}
 use lib.IntN.{ℤ, pos, natAbs, _+ℤ_, _*ℤ_}
 use lib.ListN.{length, getD}
 use Rattle.arithmetic.specs.Integers.{natural}
@@ -36,6 +38,24 @@ stepsIn table f = record {
 -- a table that leads to the index of each place in the layout L
 abbrev pub LeadsTo : ℕ → List ℕ → List ℤ → Type 0
 LeadsTo A L table = (f : ℕ) → f < 6 → Steps A (stepsIn table f) (λ m n. index A L (place f m n))
+
+-- ---- along the lines of a frame
+
+-- columns and rows exchanged
+abbrev pub exchanged : FaceSteps → FaceSteps
+exchanged s = record { base = s .base; across = s .down; down = s .across }
+
+-- does a row of the face run along a line of the frame, by these steps?
+abbrev pub alongLines : FaceSteps → Bool
+alongLines s = leb (natAbs (s .across)) 1
+
+-- the steps s, with columns and rows exchanged where a row by the steps g runs down the frame
+abbrev pub aligned : FaceSteps → FaceSteps → FaceSteps
+aligned g s = cond (alongLines g) s (exchanged s)
+
+-- a table with the steps of each face so aligned
+abbrev pub Aligned : List ℤ → List ℤ → List ℤ → Type 0
+Aligned guide table r = (f : ℕ) → f < 6 → stepsIn r f ≡ aligned (stepsIn guide f) (stepsIn table f)
 
 -- ---- the bytes of a plane of face size A, and steps to its samples
 

@@ -9,7 +9,8 @@ ghost use Rattle.cubemap.specs.Frames.{place, IsPlace, planeSamples};
 ghost use Rattle.cubemap.specs.Frames.{layoutBytes, spot, quarterTurns, indexInSlot, placeAt};
 ghost use Rattle.cubemap.specs.Frames as paper;
 ghost use Rattle.cubemap.specs.Checks.{layoutOK};
-ghost use Rattle.indices.specs.Steps.{stepped, Steps, stepsIn, LeadsTo, SteppedFace, SteppedPlane, sampleBySteps, sampleBy};
+ghost use Rattle.indices.specs.Steps as by;
+ghost use Rattle.indices.specs.Steps.{stepped, Steps, stepsIn, LeadsTo, Aligned, SteppedFace, SteppedPlane, sampleBySteps, sampleBy};
 use cubemap::Layout;
 use cubemap::Place;
 
@@ -99,6 +100,52 @@ pub fn steps_at(table: &[i64; 18], face: u64) -> FaceSteps
         across: across,
         down: down,
     }
+}
+
+// The steps with columns and rows exchanged.
+fn exchanged(steps: FaceSteps) -> FaceSteps
+    ensures { λ r. ⌜ r ≡ by.exchanged steps ⌝ }
+{
+    let base = steps.base;
+    let across = steps.across;
+    let down = steps.down;
+    FaceSteps {
+        base: base,
+        across: down,
+        down: across,
+    }
+}
+
+// The steps, with columns and rows exchanged where a row by the guide's steps runs down the frame.
+fn aligned(guide: FaceSteps, steps: FaceSteps) -> FaceSteps
+    ensures { λ r. ⌜ r ≡ by.aligned guide steps ⌝ }
+{
+    let across = guide.across;
+    if arithmetic::within(1, across) {
+        steps
+    } else {
+        exchanged(steps)
+    }
+}
+
+// The steps of the six faces, each aligned with those of a guide.
+pub fn aligned_steps(guide: &[i64; 18], table: &[i64; 18]) -> [i64; 18]
+    ensures { λ r. ⌜ Aligned (now (guide .entry)) (now (table .entry)) r ⌝ }
+{
+    let mut result = [0; 18];
+    let mut face: u64 = 0;
+    while face < 6 {
+        let steps = aligned(steps_at(guide, face), steps_at(table, face));
+        let base = steps.base;
+        let across = steps.across;
+        let down = steps.down;
+        let at = face as usize * 3;
+        result[at] = base;
+        result[at + 1] = across;
+        result[at + 2] = down;
+        face += 1;
+    }
+    result
 }
 
 // The index at a column and a row, by the steps of the face.

@@ -1,4 +1,4 @@
--- A frame that has passed its checks is a plane that can be scored.
+-- A frame that has passed its checks is a plane that can be scored, and stays one where its steps are aligned with those of another.
 use mathlib.Core.List.{List}
 use Prim.Native.Nat.{ℕ, _^_, _<_}
 use native.Mathlib.Omega.{arith}
@@ -10,8 +10,8 @@ use Rattle.cubemap.specs.Frames.{sampleAt}
 use Rattle.cubemap.specs.Checks.{sizeOK, depthOK, lengthOK, samplesOK}
 use Rattle.cubemap.proofs.Framed.{plane-bytes, samples-number, samples-below}
 use Rattle.cubemap.proofs.Passed.{size-range, depth-levels}
-use Rattle.indices.specs.Steps.{LeadsTo}
-use Rattle.indices.proofs.Stepping.{stepped-plane}
+use Rattle.indices.specs.Steps.{LeadsTo, Aligned}
+use Rattle.indices.proofs.Stepping.{aligned-plane, stepped-plane}
 use Rattle.scoring.specs.Rows.{ScoredPlane}
 
 module _ (z : Shape) (L bytes : List ℕ) (steps : List ℤ) where
@@ -25,3 +25,6 @@ module _ (z : Shape) (L bytes : List ℕ) (steps : List ℤ) where
     where
       small : (v : ℕ) → v < 2 ^ z .depth → v < 4096
       small v h = omega (arith, depth-levels (z .depth) depth)
+
+pub scored-aligned : {A : ℕ} {plane : List ℕ} (guide table r : List ℤ) → Aligned guide table r → ScoredPlane A plane table → ScoredPlane A plane r
+scored-aligned guide table r e p = record { stepped = aligned-plane guide table r e (p .stepped); shallow = p .shallow }

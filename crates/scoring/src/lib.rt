@@ -7,7 +7,7 @@ ghost use Rattle.arithmetic.specs.Sums.{sumBelow, bothTerms};
 ghost use Rattle.cubemap.specs.declared.Format.{Format};
 ghost use Rattle.cubemap.specs.Frames.{sampleAtPlace};
 ghost use Rattle.cubemap.specs.PlaceToRay.{fromCentre};
-ghost use Rattle.cubemap.specs.Score.{weightOf, squaredDifference, errorSum, weightSum};
+ghost use Rattle.cubemap.specs.Score.{weightOf, difference, squaredDifference, errorSum, weightSum};
 ghost use Rattle.cubemap.specs.Checks.{scoreSettings};
 ghost use Rattle.cubemap.specs.Outcomes.{scoredMeans, scoreResult};
 ghost use Rattle.cubemap.proofs.Passed.{ScorePassed};
@@ -175,13 +175,27 @@ fn weigh_row(size: u64, row: u64, weights: &mut [u64; 512])
 
 // ---- the sums
 
+// |x − y|
+fn apart(x: u64, y: u64) -> u64
+    requires { ⌜ (x < 4096) × (y < 4096) ⌝ }
+    ensures { λ r. ⌜ (r ≡ difference x y) × (r ≤ 4095) ⌝ }
+{
+    arithmetic::magnitude(x as i64 - y as i64)
+}
+
+fn square(d: u64) -> u64
+    requires { ⌜ d ≤ 4095 ⌝ }
+    ensures { λ r. ⌜ (r ≡ d * d) × (r ≤ 16769025) ⌝ }
+{
+    d * d
+}
+
 // W × squared difference.
 fn weighted(weight: u64, x: u64, y: u64) -> u64
     requires { ⌜ (weight ≤ 65536) × (x < 4096) × (y < 4096) ⌝ }
     ensures { λ r. ⌜ (r ≡ weight * squaredDifference x y) × (r ≤ 1098974822400) ⌝ }
 {
-    let d = x as i64 - y as i64;
-    weight * ((d * d) as u64)
+    weight * square(apart(x, y))
 }
 
 // The error sum of a row of a face.
@@ -311,9 +325,9 @@ fn score_planes(
     let mut errors: u64 = 0;
     let mut sum: u64 = 0;
     let mut row: u64 = 0;
-    let mut opposite: u64 = size;
-    while row < opposite {
-        opposite -= 1;
+    let mut last: u64 = size;
+    while row < last {
+        last -= 1;
         weigh_row(size, row, &mut weights);
         errors += rows_error(
             size,
@@ -323,9 +337,9 @@ fn score_planes(
             second_steps,
             &weights,
             row,
-            opposite,
+            last,
         );
-        sum += rows_weight(size, &weights, row, opposite);
+        sum += rows_weight(size, &weights, row, last);
         row += 1;
     }
     Scored::Sums {
@@ -334,7 +348,8 @@ fn score_planes(
     }
 }
 
-// The two sums of two frames, where no question ended the call.
+// The two sums of two frames, where no question ended the call. A place has the weight of the one with column and row exchanged, so where a face lies
+// on its side in the first frame, both frames are walked along its columns: those are lines of the first frame.
 fn score_frames(
     shape: Shape,
     first_layout: &[u8],
@@ -349,8 +364,10 @@ fn score_frames(
         (weightSum format (shape .size))) ⌝ }
 {
     let size = shape.size;
-    let first_steps = indices::face_steps(size, frame::layout_of(first_layout));
-    let second_steps = indices::face_steps(size, frame::layout_of(second_layout));
+    let first_table = indices::face_steps(size, frame::layout_of(first_layout));
+    let second_table = indices::face_steps(size, frame::layout_of(second_layout));
+    let first_steps = indices::aligned_steps(&first_table, &first_table);
+    let second_steps = indices::aligned_steps(&first_table, &second_table);
     score_planes(size, first, &first_steps, second, &second_steps)
 }
 

@@ -35,15 +35,15 @@ scored-face : {A : ℕ} {plane : List ℕ} {table : List ℤ} → ScoredPlane A 
 scored-face p f h = record { stepped = face-of (p .stepped) f h; shallow = p .shallow }
 
 steps-at-requires : tie.Need-steps-at-requires Inv-loop μ-loop
-steps-at-requires c κs = c .loop-test .taken
+steps-at-requires c κs = omega arith
 
 steps-at-requires-2 : tie.Need-steps-at-requires-2 Inv-loop μ-loop
-steps-at-requires-2 c κs = c .before .loop-test .taken
+steps-at-requires-2 c κs = omega arith
 
 face-error-requires : tie.Need-face-error-requires Inv-loop μ-loop
 face-error-requires c κs =
     let s : tie.Start Inv-loop μ-loop = c .before .before .before .before .before .before in
-    let face = c .before .before .loop-test .taken in (
+    let face : c .before .before .before .loop .face < 6 = omega arith in (
       (
         subst (ScoredFace _ _) (sym (c .before .steps-at .ensures)) (scored-face (s .pre .0 .0) _ face),
         subst (ScoredFace _ _) (sym (c .steps-at2 .ensures)) (scored-face (s .pre .0 .1) _ face),

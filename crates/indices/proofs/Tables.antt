@@ -1,0 +1,70 @@
+-- A table of the steps of six faces that a loop fills, face by face, three numbers a face.
+use mathlib.Core.Path.{_≡_, sym, _∙_, subst}
+use mathlib.Core.List.{List}
+use Prim.Native.Nat.{ℕ, _+_, _*_, _≤_, _<_}
+use native.Mathlib.Decide.{ℕ-discrete}
+use native.Mathlib.Omega.{arith}
+use lib.IntN.{ℤ, pos}
+use lib.ListN.{length, getD, set, length-set}
+use lib.Seq.{getD-set-same, getD-set-other}
+use Rattle.indices.specs.declared.FaceSteps.{FaceSteps}
+use Rattle.indices.specs.Steps.{stepsIn}
+use Rattle.indices.proofs.Stepping.{steps, steps-eq}
+
+-- three numbers stored from an index on, and what is read back
+module _ (l : List ℤ) (i : ℕ) (x y z : ℤ) where
+  abbrev pub stored : List ℤ
+  stored = set (set (set l i x) (i + 1) y) (i + 2) z
+
+  length-stored : length stored ≡ length l
+  length-stored = length-set (set (set l i x) (i + 1) y) (i + 2) z ∙ length-set (set l i x) (i + 1) y ∙ length-set l i x
+
+  first : i + 2 < length l → getD stored i (pos 0) ≡ x
+  first h =
+      getD-set-other (set (set l i x) (i + 1) y) (i + 2) i z (pos 0) (λ e. absurd (omega arith))
+      ∙ getD-set-other (set l i x) (i + 1) i y (pos 0) (λ e. absurd (omega arith)) ∙ getD-set-same l i x (pos 0) (omega arith)
+
+  second : i + 2 < length l → getD stored (i + 1) (pos 0) ≡ y
+  second h =
+      getD-set-other (set (set l i x) (i + 1) y) (i + 2) (i + 1) z (pos 0) (λ e. absurd (omega arith))
+      ∙ getD-set-same (set l i x) (i + 1) y (pos 0) (omega (arith, length-set l i x))
+
+  third : i + 2 < length l → getD stored (i + 2) (pos 0) ≡ z
+  third h = getD-set-same (set (set l i x) (i + 1) y) (i + 2) z (pos 0) (omega (arith, length-set (set l i x) (i + 1) y, length-set l i x))
+
+  other : (j : ℕ) → j < i → getD stored j (pos 0) ≡ getD l j (pos 0)
+  other j h =
+      getD-set-other (set (set l i x) (i + 1) y) (i + 2) j z (pos 0) (λ e. absurd (omega arith))
+      ∙ getD-set-other (set l i x) (i + 1) j y (pos 0) (λ e. absurd (omega arith)) ∙ getD-set-other l i j x (pos 0) (λ e. absurd (omega arith))
+
+-- the steps of the faces below `face` are there, each with what is asked of that face
+pub record Filled (Good : ℕ → FaceSteps → Type 0) (table : List ℤ) (face : ℕ) : Type 0 where
+  pub bounded : face ≤ 6
+  pub whole : length table ≡ 18
+  pub entry : (f : ℕ) → f < face → Good f (stepsIn table f)
+
+pub filled-none : (Good : ℕ → FaceSteps → Type 0) (table : List ℤ) → length table ≡ 18 → Filled Good table 0
+filled-none Good table e = record { bounded = omega arith; whole = e; entry = λ f h. absurd (omega arith) }
+
+-- the numbers of one more face
+pub filled-next : {Good : ℕ → FaceSteps → Type 0} {l : List ℤ} {face : ℕ} {x y z : ℤ} → Filled Good l face → face < 6 → Good face (steps x y z)
+    → Filled Good (stored l (face * 3) x y z) (face + 1)
+filled-next {Good} {l} {face} {x} {y} {z} w h s = record {
+  bounded = omega arith;
+  whole = length-stored l (face * 3) x y z ∙ w .whole;
+  entry = λ f k. go f k (ℕ-discrete f face);
+}
+  where
+    room : face * 3 + 2 < length l
+    room = omega (arith, w .whole)
+
+    go : (f : ℕ) → f < face + 1 → Dec (f ≡ face) → Good f (stepsIn (stored l (face * 3) x y z) f)
+    go f k (yes e) = subst (λ g. Good g (stepsIn (stored l (face * 3) x y z) g)) (sym e)
+        (subst (Good face) (sym (steps-eq (first l (face * 3) x y z room) (second l (face * 3) x y z room) (third l (face * 3) x y z room))) s)
+    go f k (no d) = subst (Good f)
+        (sym
+        (steps-eq
+        (other l (face * 3) x y z (f * 3) (omega arith))
+        (other l (face * 3) x y z (f * 3 + 1) (omega arith))
+        (other l (face * 3) x y z (f * 3 + 2) (omega arith))))
+        (w .entry f (omega arith))
