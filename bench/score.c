@@ -11,7 +11,7 @@ static double weight_at(int size, int m, int n)
     return 1 / (k * sqrt(k));
 }
 
-void set_weights(int size, double *weights)
+void set_face_weights(int size, double *weights)
 {
     for (int n = 0; n < size; n++)
         for (int m = 0; m < size; m++)

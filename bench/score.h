@@ -4,7 +4,7 @@
 
 #include <stdint.h>
 
-/* Each frame has its own layout, of 12 bytes as in welchodrys.h. The weights are those of a face, from set_weights. */
+/* Each frame has its own layout, of 12 bytes as in welchodrys.h. The weights are those of a face, from set_face_weights. */
 struct scoring {
     int size;
     const uint8_t *first_layout, *second_layout;
@@ -17,7 +17,7 @@ struct sums {
 };
 
 /* The weights of a face's samples, row after row. */
-void set_weights(int size, double *weights);
+void set_face_weights(int size, double *weights);
 
 /*
  * Frames are bytes, as welchodrys_score takes them, and nothing is checked. All but the straightforward one use them as arrays of

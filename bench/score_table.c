@@ -138,7 +138,7 @@ int print_score_table(void)
     double times[WAYS][CASES];
     fill(frames.first, 0);
     fill(frames.second, 1);
-    set_weights(SIZE, weights);
+    set_face_weights(SIZE, weights);
     for (int i = 0; i < CASES; i++)
         check(i, &frames);
 

@@ -1,6 +1,7 @@
 /*
  * The two tables of `make bench`. Each is measured and printed with its verdict, and gives whether the verdict is "yes". Before
- * that, it is checked that what is compared does the same work but for roundings; if not, the program ends with DISAGREEMENT.
+ * that, it is checked that the conversions or weighted errors in double precision do the same work but for roundings; if not, the
+ * program ends with DISAGREEMENT.
  */
 #ifndef TABLES_H
 #define TABLES_H

@@ -98,7 +98,7 @@ uint64_t welchodrys_convert(uint64_t source_size, uint64_t target_size, uint64_t
  *
  * Asks 1 of the size, 3 of the depth, 4 of the format, 5 of both layouts, 8 of the first frame's length, 9 of the second's, 10 of the
  * first frame's samples, then 11 of the second's. Writes two numbers, 16 bytes: the error sum, then the weight sum. Both frames and
- * both layouts stay; they may share memory, since none of them is written.
+ * both layouts stay; they may share memory with each other, since none of them is written.
  */
 uint64_t welchodrys_score(uint64_t size, uint64_t depth, uint64_t format,
     const uint8_t *first_layout, size_t first_layout_length, const uint8_t *second_layout, size_t second_layout_length,

@@ -35,11 +35,6 @@ unfolding sumBelow
 sum-same zero c = omega arith
 sum-same (suc n) c = omega (arith, sum-same n c)
 
-pub sum-zero : (n : ℕ) → sumBelow (λ i. 0) n ≡ 0
-unfolding sumBelow
-sum-zero zero = refl
-sum-zero (suc n) = omega (arith, sum-zero n)
-
 pub sum-add : (n : ℕ) (f g : ℕ → ℕ) → sumBelow (λ i. f i + g i) n ≡ sumBelow f n + sumBelow g n
 unfolding sumBelow
 sum-add zero f g = refl
@@ -59,7 +54,7 @@ sum-least (suc n) b f h = omega (arith, sum-least n b f (λ i l. h i (omega arit
 
 pub sum-swap : (n m : ℕ) (a : ℕ → ℕ → ℕ) → sumBelow (λ i. sumBelow (λ k. a i k) m) n ≡ sumBelow (λ k. sumBelow (λ i. a i k) n) m
 unfolding sumBelow
-sum-swap zero m a = sym (sum-zero m)
+sum-swap zero m a = omega (arith, sum-same m 0)
 sum-swap (suc n) m a =
     ap (λ x. x + sumBelow (λ k. a n k) m) (sum-swap n m a) ∙ sym (sum-add m (λ k. sumBelow (λ i. a i k) n) (λ k. a n k))
 

@@ -477,11 +477,14 @@ fn depth_at(i: u64) -> u64
     }
 }
 
-// Group 2: both ends of the range of depths and one beyond each, with each mix.
+// Group 2: both ends of the range of depths and one beyond each, with each mix, to a smaller target and to one of the same size.
 fn depth_case(i: u64) -> Case
     ensures { λ r. ⌜ r .depth < 16 ⌝ }
 {
-    mixed(plain(3, 2, depth_at(i / 8), 0, 1, oblique_turn()), i % 8)
+    mixed(
+        plain(3, 2 + i / 32, depth_at(i / 8 % 4), 0, 1, oblique_turn()),
+        i % 8,
+    )
 }
 
 // Group 3: both ends of the range of a turn's numbers and one beyond each, at each position, with mixes 0 and 7.
@@ -497,11 +500,11 @@ fn turn_number_case(i: u64) -> Case
     mixed(plain(3, 3, 12, 1, 3, turn), i % 2 * 7)
 }
 
-// Group 4: each layout with each.
+// Group 4: each layout with each, to a smaller target and to one of the same size.
 fn layout_case(i: u64) -> Case
     ensures { λ r. ⌜ r .depth < 16 ⌝ }
 {
-    mixed(plain(3, 2, 8, i / 7, i % 7, oblique_turn()), 6)
+    mixed(plain(3, 2 + i / 49, 8, i / 7 % 7, i % 7, oblique_turn()), 6)
 }
 
 // A turn of group 5: it takes each axis onto an axis.
@@ -563,9 +566,9 @@ fn code_case(i: u64) -> Case
 fn count_in(group: u64) -> u64 {
     match group {
         1 => 112,
-        2 => 32,
+        2 => 64,
         3 => 32,
-        4 => 49,
+        4 => 98,
         5 => 32,
         6 => 12,
         _ => 4,

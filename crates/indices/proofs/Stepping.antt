@@ -1,4 +1,4 @@
--- Base and steps of a face in its slot, turned 0 to 3 times, lead to the index of each of its columns and rows.
+-- Base and steps of a face in its slot, turned 0 to 3 times, lead to the index of each of its columns and rows; and steps with columns and rows exchanged.
 use mathlib.Core.Path.{_≡_, refl, sym, _∙_, ap, subst}
 use mathlib.Core.Bool.{Bool, true, false, cond}
 use mathlib.Core.List.{List, [], _∷_}
@@ -209,7 +209,7 @@ module _ (A : ℕ) (L : List ℕ) (table : List ℤ) (t : LeadsTo A L table) whe
   to-index : (f m n : ℕ) → f < 6 → m < A → n < A → natural (stepped (stepsIn table f) m n) ≡ index A L (place f m n)
   to-index f m n h p q = ap natural (t f h .gives m n p q)
 
-  pub all-lead : (f : ℕ) → f < 6 → FaceLeads A (stepsIn table f)
+  all-lead : (f : ℕ) → f < 6 → FaceLeads A (stepsIn table f)
   all-lead f h = steps-cong (λ m n p q. sym (to-index f m n h p q)) (t f h)
 
   pub stepped-plane : {plane : List ℕ} → 1 ≤ A → A ≤ 512 → length plane ≡ 2 * planeSamples A → SteppedPlane A plane table

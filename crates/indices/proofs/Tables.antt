@@ -8,12 +8,12 @@ use lib.IntN.{ℤ, pos}
 use lib.ListN.{length, getD, set, length-set}
 use lib.Seq.{getD-set-same, getD-set-other}
 use Rattle.indices.specs.declared.FaceSteps.{FaceSteps}
-use Rattle.indices.specs.Steps.{stepsIn}
-use Rattle.indices.proofs.Stepping.{steps, steps-eq}
+use Rattle.indices.specs.Steps.{stepsIn, withSteps}
+use Rattle.indices.proofs.Stepping.{steps-eq}
 
 -- three numbers stored from an index on, and what is read back
 module _ (l : List ℤ) (i : ℕ) (x y z : ℤ) where
-  abbrev pub stored : List ℤ
+  abbrev stored : List ℤ
   stored = set (set (set l i x) (i + 1) y) (i + 2) z
 
   length-stored : length stored ≡ length l
@@ -46,25 +46,30 @@ pub record Filled (Good : ℕ → FaceSteps → Type 0) (table : List ℤ) (face
 pub filled-none : (Good : ℕ → FaceSteps → Type 0) (table : List ℤ) → length table ≡ 18 → Filled Good table 0
 filled-none Good table e = record { bounded = omega arith; whole = e; entry = λ f h. absurd (omega arith) }
 
--- the numbers of one more face
-pub filled-next : {Good : ℕ → FaceSteps → Type 0} {l : List ℤ} {face : ℕ} {x y z : ℤ} → Filled Good l face → face < 6 → Good face (steps x y z)
-    → Filled Good (stored l (face * 3) x y z) (face + 1)
-filled-next {Good} {l} {face} {x} {y} {z} w h s = record {
+-- the steps of one more face
+pub filled-next : {Good : ℕ → FaceSteps → Type 0} {l : List ℤ} {face : ℕ} (s : FaceSteps) → Filled Good l face → face < 6 → Good face s
+    → Filled Good (withSteps l face s) (face + 1)
+filled-next {Good} {l} {face} s w h g = record {
   bounded = omega arith;
-  whole = length-stored l (face * 3) x y z ∙ w .whole;
+  whole = length-stored l (face * 3) (s .base) (s .across) (s .down) ∙ w .whole;
   entry = λ f k. go f k (ℕ-discrete f face);
 }
   where
     room : face * 3 + 2 < length l
     room = omega (arith, w .whole)
 
-    go : (f : ℕ) → f < face + 1 → Dec (f ≡ face) → Good f (stepsIn (stored l (face * 3) x y z) f)
-    go f k (yes e) = subst (λ g. Good g (stepsIn (stored l (face * 3) x y z) g)) (sym e)
-        (subst (Good face) (sym (steps-eq (first l (face * 3) x y z room) (second l (face * 3) x y z room) (third l (face * 3) x y z room))) s)
-    go f k (no d) = subst (Good f)
-        (sym
-        (steps-eq
-        (other l (face * 3) x y z (f * 3) (omega arith))
-        (other l (face * 3) x y z (f * 3 + 1) (omega arith))
-        (other l (face * 3) x y z (f * 3 + 2) (omega arith))))
-        (w .entry f (omega arith))
+    here : stepsIn (withSteps l face s) face ≡ s
+    here = steps-eq
+        (first l (face * 3) (s .base) (s .across) (s .down) room)
+        (second l (face * 3) (s .base) (s .across) (s .down) room)
+        (third l (face * 3) (s .base) (s .across) (s .down) room)
+
+    there : (f : ℕ) → f < face → stepsIn (withSteps l face s) f ≡ stepsIn l f
+    there f k = steps-eq
+        (other l (face * 3) (s .base) (s .across) (s .down) (f * 3) (omega arith))
+        (other l (face * 3) (s .base) (s .across) (s .down) (f * 3 + 1) (omega arith))
+        (other l (face * 3) (s .base) (s .across) (s .down) (f * 3 + 2) (omega arith))
+
+    go : (f : ℕ) → f < face + 1 → Dec (f ≡ face) → Good f (stepsIn (withSteps l face s) f)
+    go f k (yes e) = subst (λ n. Good n (stepsIn (withSteps l face s) n)) (sym e) (subst (Good face) (sym here) g)
+    go f k (no d) = subst (Good f) (sym (there f (omega arith))) (w .entry f (omega arith))

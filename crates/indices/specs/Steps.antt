@@ -5,7 +5,7 @@ use mathlib.Core.List.{List}
 use Prim.Native.Nat.{ℕ, _+_, _*_, _≤_, _<_}
 use lib.Dec.{leb}
 use lib.IntN.{ℤ, pos, natAbs, _+ℤ_, _*ℤ_}
-use lib.ListN.{length, getD}
+use lib.ListN.{length, getD, set}
 use Rattle.arithmetic.specs.Integers.{natural}
 use Rattle.cubemap.specs.declared.Place.{Place}
 use Rattle.cubemap.specs.Frames.{place, planeSamples, index, sampleAt}
@@ -34,6 +34,10 @@ stepsIn table f = record {
   across = getD table (f * 3 + 1) (pos 0);
   down = getD table (f * 3 + 2) (pos 0);
 }
+
+-- the table with the steps s for the face f
+abbrev pub withSteps : List ℤ → ℕ → FaceSteps → List ℤ
+withSteps table f s = set (set (set table (f * 3) (s .base)) (f * 3 + 1) (s .across)) (f * 3 + 2) (s .down)
 
 -- a table that leads to the index of each place in the layout L
 abbrev pub LeadsTo : ℕ → List ℕ → List ℤ → Type 0

@@ -10,7 +10,7 @@ ghost use Rattle.cubemap.specs.Frames.{layoutBytes, spot, quarterTurns, indexIn
 ghost use Rattle.cubemap.specs.Frames as paper;
 ghost use Rattle.cubemap.specs.Checks.{layoutOK};
 ghost use Rattle.indices.specs.Steps as by;
-ghost use Rattle.indices.specs.Steps.{stepped, Steps, stepsIn, LeadsTo, Aligned, SteppedFace, SteppedPlane, sampleBySteps, sampleBy};
+ghost use Rattle.indices.specs.Steps.{stepped, Steps, stepsIn, withSteps, LeadsTo, Aligned, SteppedFace, SteppedPlane, sampleBySteps, sampleBy};
 use cubemap::Layout;
 use cubemap::Place;
 
@@ -65,6 +65,20 @@ pub fn steps_of(size: u64, layout: Layout, face: u64) -> FaceSteps
     steps_in_slot(size, slot, frame::turns_in(layout, slot))
 }
 
+// Stores the steps of a face in a table of all six.
+fn put_steps(table: &mut [i64; 18], face: u64, steps: FaceSteps)
+    requires { ⌜ face < 6 ⌝ }
+    ensures { λ _. ⌜ now (table .exit) ≡ withSteps (now (table .entry)) face steps ⌝ }
+{
+    let base = steps.base;
+    let across = steps.across;
+    let down = steps.down;
+    let at = face as usize * 3;
+    table[at] = base;
+    table[at + 1] = across;
+    table[at + 2] = down;
+}
+
 // The steps of the six faces, three numbers a face.
 pub fn face_steps(size: u64, layout: Layout) -> [i64; 18]
     requires { ⌜ (1 ≤ size) × (size ≤ 512) × T (layoutOK (layoutBytes layout)) ⌝ }
@@ -73,14 +87,7 @@ pub fn face_steps(size: u64, layout: Layout) -> [i64; 18]
     let mut table = [0; 18];
     let mut face: u64 = 0;
     while face < 6 {
-        let steps = steps_of(size, layout, face);
-        let base = steps.base;
-        let across = steps.across;
-        let down = steps.down;
-        let at = face as usize * 3;
-        table[at] = base;
-        table[at + 1] = across;
-        table[at + 2] = down;
+        put_steps(&mut table, face, steps_of(size, layout, face));
         face += 1;
     }
     table
@@ -136,13 +143,7 @@ pub fn aligned_steps(guide: &[i64; 18], table: &[i64; 18]) -> [i64; 18]
     let mut face: u64 = 0;
     while face < 6 {
         let steps = aligned(steps_at(guide, face), steps_at(table, face));
-        let base = steps.base;
-        let across = steps.across;
-        let down = steps.down;
-        let at = face as usize * 3;
-        result[at] = base;
-        result[at + 1] = across;
-        result[at + 2] = down;
+        put_steps(&mut result, face, steps);
         face += 1;
     }
     result

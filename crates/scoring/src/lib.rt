@@ -22,14 +22,14 @@ use indices::FaceSteps;
 
 // ---- the weight of a place
 
-// The test of a weight, in numbers that fit 64 bits: W passes where W²·(high·2^30 + low) ≤ 2^30·limit.
+// The test of a weight, in numbers that fit 64 bits: W passes where W²·(high·2^30 + low) ≤ 2^30·limit. (2^30 is 1,073,741,824.)
 struct WeightTest {
     high: u64,
     low: u64,
     limit: u64,
 }
 
-// The third power.
+// The third power of K = A² + p² + q², which is at most 3·512² = 786,432.
 fn cube(k: u64) -> u64
     requires { ⌜ k ≤ 786432 ⌝ }
     ensures { λ r. ⌜ (r ≡ k ^ 3) × (r ≤ 486388759756013568) ⌝ }
@@ -58,7 +58,7 @@ fn test_of(limit: u64, k: u64) -> WeightTest
     }
 }
 
-// Does W pass?
+// Does W pass? Both sides are divided by 2^30, and the low part is rounded up: the sum is at most the limit exactly where W passes.
 fn passes(test: WeightTest, w: u64) -> bool
     requires { ⌜ Bounds test × (w ≤ 65538) ⌝ }
     ensures { λ r. ⌜ r ≡ passing test w ⌝ }
@@ -128,7 +128,7 @@ fn weight_of(size: u64, p: u64, q: u64, guess: u64) -> u64
     most_near(test_of(limit, length_squared(size, p, q)), guess)
 }
 
-// A number cut to the largest weight.
+// A number cut to 65,536, which no weight exceeds.
 fn cut(x: u64) -> u64
     ensures { λ r. ⌜ r ≤ 65536 ⌝ }
 {
@@ -183,6 +183,7 @@ fn apart(x: u64, y: u64) -> u64
     arithmetic::magnitude(x as i64 - y as i64)
 }
 
+// The square of a difference.
 fn square(d: u64) -> u64
     requires { ⌜ d ≤ 4095 ⌝ }
     ensures { λ r. ⌜ (r ≡ d * d) × (r ≤ 16769025) ⌝ }
@@ -250,7 +251,7 @@ fn faces_error(
     error
 }
 
-// The error sum of a row and of the opposite one, which has the same weights; of the one row where they are the same.
+// The error sum of a row and of its mirror, the opposite row, which has the same weights; of the one row where they are the same.
 fn rows_error(
     size: u64,
     first: &[u8],
@@ -259,32 +260,32 @@ fn rows_error(
     second_steps: &[i64; 18],
     weights: &[u64; 512],
     row: u64,
-    opposite: u64,
+    mirror: u64,
 ) -> u64
     requires { ⌜ ScoredPlane size (now first) (now «first_steps») × ScoredPlane size (now second) (now «second_steps») ⌝ }
-    requires { ⌜ Weighed size row (now weights) × (opposite ≡ size - suc row) × (row < size) ⌝ }
+    requires { ⌜ Weighed size row (now weights) × (mirror ≡ size - suc row) × (row < size) ⌝ }
     ensures { λ r. ⌜ (r ≡ bothTerms (facesError size (now (first .entry)) (now («first_steps» .entry)) (now (second .entry)) (now («second_steps» .entry))
-        (now (weights .entry))) row opposite) × (r ≤ 6752101308825600) ⌝ }
+        (now (weights .entry))) row mirror) × (r ≤ 6752101308825600) ⌝ }
 {
     let error = faces_error(size, first, first_steps, second, second_steps, weights, row);
-    if row < opposite {
-        return error
-            + faces_error(
-                size,
-                first,
-                first_steps,
-                second,
-                second_steps,
-                weights,
-                opposite,
-            );
+    if row < mirror {
+        let other = faces_error(
+            size,
+            first,
+            first_steps,
+            second,
+            second_steps,
+            weights,
+            mirror,
+        );
+        return error + other;
     }
     error
 }
 
 // The sum of the weights of a row.
-fn row_weight(size: u64, weights: &[u64; 512], row: u64) -> u64
-    requires { ⌜ Weighed size row (now weights) × (1 ≤ size) × (size ≤ 512) ⌝ }
+fn row_weight(size: u64, weights: &[u64; 512]) -> u64
+    requires { ⌜ (size ≤ 512) × ((m : ℕ) → m < size → getD (now weights) m 0 ≤ 65536) ⌝ }
     ensures { λ r. ⌜ (r ≡ sumBelow (λ m. getD (now (weights .entry)) m 0) size) × (r ≤ 33554432) ⌝ }
 {
     let mut sum: u64 = 0;
@@ -296,13 +297,13 @@ fn row_weight(size: u64, weights: &[u64; 512], row: u64) -> u64
     sum
 }
 
-// The sum of the weights of a row and of the opposite one, which has the same; of the one row where they are the same.
-fn rows_weight(size: u64, weights: &[u64; 512], row: u64, opposite: u64) -> u64
+// The sum of the weights of a row and of its mirror, the opposite row, which has the same; of the one row where they are the same.
+fn rows_weight(size: u64, weights: &[u64; 512], row: u64, mirror: u64) -> u64
     requires { ⌜ Weighed size row (now weights) × (1 ≤ size) × (size ≤ 512) ⌝ }
-    ensures { λ r. ⌜ (r ≡ bothTerms (λ _. sumBelow (λ m. getD (now (weights .entry)) m 0) size) row opposite) × (r ≤ 67108864) ⌝ }
+    ensures { λ r. ⌜ (r ≡ bothTerms (λ _. sumBelow (λ m. getD (now (weights .entry)) m 0) size) row mirror) × (r ≤ 67108864) ⌝ }
 {
-    let sum = row_weight(size, weights, row);
-    if row < opposite {
+    let sum = row_weight(size, weights);
+    if row < mirror {
         return sum + sum;
     }
     sum
@@ -325,9 +326,9 @@ fn score_planes(
     let mut errors: u64 = 0;
     let mut sum: u64 = 0;
     let mut row: u64 = 0;
-    let mut last: u64 = size;
-    while row < last {
-        last -= 1;
+    let mut opposite: u64 = size;
+    while row < opposite {
+        opposite -= 1;
         weigh_row(size, row, &mut weights);
         errors += rows_error(
             size,
@@ -337,9 +338,9 @@ fn score_planes(
             second_steps,
             &weights,
             row,
-            last,
+            opposite,
         );
-        sum += rows_weight(size, &weights, row, last);
+        sum += rows_weight(size, &weights, row, opposite);
         row += 1;
     }
     Scored::Sums {

@@ -1,11 +1,9 @@
 -- `faces_error` meets its contract: after f faces the sum is that of the first f faces' rows.
-use mathlib.Core.Path.{_≡_, sym, _∙_, ap₂, subst}
+use mathlib.Core.Path.{sym, _∙_, ap₂, subst}
 use mathlib.Core.List.{List}
 use Prim.Native.Nat.{ℕ, _-_, _≤_, _<_}
 use native.Mathlib.Omega.{arith}
 use lib.IntN.{ℤ}
-use borrow.Author.Needs.{needs}
-use Rattle.indices.specs.declared.FaceSteps.{FaceSteps}
 use Rattle.indices.specs.Steps.{stepsIn}
 use Rattle.indices.proofs.Stepping.{face-of}
 use Rattle.scoring.specs.Rows.{ScoredFace, ScoredPlane, faceError}

@@ -1,5 +1,5 @@
 -- `offset` meets its contract: the size of p or q, which is below A.
-use mathlib.Core.Path.{_≡_, sym, _∙_, ap, subst}
+use mathlib.Core.Path.{sym, _∙_, ap, subst}
 use Prim.Native.Nat.{_<_}
 use lib.IntN.{natAbs}
 use mir.Facts.{toZ-ofZ}

@@ -1,11 +1,10 @@
 -- `row_weight` meets its contract: after m columns the sum is that of the first m weights.
-use mathlib.Core.Path.{_≡_, refl}
+use mathlib.Core.Path.{refl}
 use mathlib.Core.List.{List}
 use Prim.Native.Nat.{ℕ, _-_, _≤_}
 use native.Mathlib.Omega.{arith}
 use lib.ListN.{getD}
 use Rattle.scoring.proofs.Summing.{Running, running-none, running-next, running-all}
-use Rattle.scoring.proofs.Weighing.{entry-most}
 use Rattle.scoring.proofs.row_weight.Statement.{statement}
 use Rattle.scoring.proofs.row_weight.Tie as tie
 
@@ -14,10 +13,10 @@ record Summed (size : ℕ) (weights : List ℕ) (sum column : ℕ) : Type 0 wher
   running : Running (λ m. getD weights m 0) 65536 column sum
 
 abbrev Inv-loop : tie.InvT-loop
-Inv-loop size weights row sum₀ column₀ sum column = Summed size weights sum column
+Inv-loop size weights sum₀ column₀ sum column = Summed size weights sum column
 
 abbrev μ-loop : tie.MeasureT-loop
-μ-loop size weights row sum₀ column₀ sum column = size - column
+μ-loop size weights sum₀ column₀ sum column = size - column
 
 loop-holds : tie.Need-loop-holds Inv-loop μ-loop
 loop-holds c = record { bounded = omega arith; running = running-none _ 65536 }
@@ -31,7 +30,7 @@ element-copy-out-sum c = omega arith
 add-sum : tie.Need-add-sum Inv-loop μ-loop
 add-sum c =
     let l = c .before .before .loop in
-    omega (arith, l .inv .running .small, entry-most (c .before .before .before .pre .0) (c .before .before .before .pre .1) (c .before .loop-test .taken))
+    omega (arith, l .inv .running .small, c .before .before .before .pre .1 (l .column) (c .before .loop-test .taken))
 
 add-column : tie.Need-add-column Inv-loop μ-loop
 add-column c = omega arith
@@ -40,11 +39,12 @@ loop-less : tie.Need-loop-less Inv-loop μ-loop
 loop-less c = omega arith
 
 loop-again : tie.Need-loop-again Inv-loop μ-loop
-loop-again c = record {
-  bounded = omega arith;
-  running = running-next (c .before .before .loop .inv .running) refl
-      (entry-most (c .before .before .before .pre .0) (c .before .before .before .pre .1) (c .before .loop-test .taken));
-}
+loop-again c =
+    let l = c .before .before .loop in
+    record {
+      bounded = omega arith;
+      running = running-next (l .inv .running) refl (c .before .before .before .pre .1 (l .column) (c .before .loop-test .taken));
+    }
 
 returns : tie.Need-returns Inv-loop μ-loop
 returns c =

@@ -1,6 +1,6 @@
 -- `rows_error` meets its contract: the opposite row is added where it is another one.
-use mathlib.Core.Path.{_≡_, sym, _∙_, ap₂, subst}
-use Prim.Native.Nat.{ℕ, _+_, _<_}
+use mathlib.Core.Path.{sym, _∙_, ap₂, subst}
+use Prim.Native.Nat.{ℕ, _+_}
 use native.Mathlib.Omega.{arith}
 use borrow.Author.Needs.{needs}
 use Rattle.arithmetic.proofs.Sums.{both-apart, both-same}
@@ -33,13 +33,13 @@ returns c =
     let s : tie.Start = t .before .before .before .before in
     let e = t .before .faces-error .ensures in
     let o = c .faces-error2 .ensures in
-    (ap₂ _+_ (e .0) (o .0) ∙ both-apart (term s) (s .args .row) (s .args .opposite) (t .if1 .taken), omega arith)
+    (ap₂ _+_ (e .0) (o .0) ∙ both-apart (term s) (s .args .row) (s .args .mirror) (t .if1 .taken), omega arith)
 
 returns-2 : tie.Need-returns-2
 returns-2 c =
     let s : tie.Start = c .before .before .before .before in
     let e = c .before .faces-error .ensures in
-    (e .0 ∙ both-same (term s) (s .args .row) (s .args .opposite) (λ h. omega arith), omega arith)
+    (e .0 ∙ both-same (term s) (s .args .row) (s .args .mirror) (λ h. omega arith), omega arith)
 
 pub rows-error-spec : {M : Type 1} → statement M
 rows-error-spec =

@@ -1,6 +1,6 @@
 -- `score` meets its contract: each exit is the first check that fails, and behind the last one are the sums.
 use mathlib.Core.Path.{_≡_, sym, _∙_, ap}
-use mathlib.Core.List.{List, _∷_}
+use mathlib.Core.List.{List}
 use Prim.Native.Nat.{ℕ, _≤_}
 use lib.Dec.{T}
 use lib.ListN.{length, drop}
@@ -10,7 +10,7 @@ use Rattle.arithmetic.proofs.Tests.{passes}
 use Rattle.cubemap.specs.declared.Refusal.{Refusal}
 use Rattle.cubemap.specs.Interface.{formatOf, accepted, answer}
 use Rattle.cubemap.specs.Frames.{bytesIn}
-use Rattle.cubemap.specs.Checks.{ScoreSettings, scoreSettings, sizeOK, depthOK, lengthOK}
+use Rattle.cubemap.specs.Checks.{ScoreSettings, scoreSettings, depthOK}
 use Rattle.cubemap.specs.Outcomes.{scoredMeans, refusal, refused, scoreResult}
 use Rattle.cubemap.proofs.Framed.{length-is}
 use Rattle.cubemap.proofs.Passed.{Remaining, next-holds, next-fails, none-fails, size-range}

@@ -1,15 +1,13 @@
 -- `score_frames` meets its contract: the steps lead to the samples that the layouts name, on some faces with column and row exchanged in both frames.
 use mathlib.Core.Path.{_≡_, sym, _∙_, ap, subst}
 use mathlib.Core.List.{List}
-use Prim.Native.Nat.{ℕ, _*_, _≤_}
+use Prim.Native.Nat.{ℕ}
 use lib.Dec.{T}
-use lib.IntN.{ℤ}
 use lib.ListN.{length}
 use borrow.Author.Needs.{needs}
-use Rattle.cubemap.specs.declared.Format.{Format}
 use Rattle.cubemap.specs.declared.Scored.{Scored}
 use Rattle.cubemap.specs.declared.Shape.{Shape}
-use Rattle.cubemap.specs.Frames.{layoutBytes, sampleAtPlace}
+use Rattle.cubemap.specs.Frames.{sampleAtPlace}
 use Rattle.cubemap.specs.Score.{weightSum}
 use Rattle.cubemap.specs.Checks.{layoutOK}
 use Rattle.cubemap.proofs.Layouts.{layout-holds}
@@ -17,7 +15,6 @@ use Rattle.cubemap.proofs.Passed.{Between, size-range}
 use Rattle.cubemap.proofs.Scores.{error-cong, error-exchanged}
 use Rattle.indices.specs.Steps.{LeadsTo, sampleBy}
 use Rattle.indices.proofs.Stepping.{keeps, sample-aligned, sample-by-layout}
-use Rattle.scoring.specs.Rows.{ScoredPlane}
 use Rattle.scoring.proofs.Planes.{scored-plane, scored-aligned}
 use Rattle.scoring.proofs.score_frames.Statement.{statement}
 use Rattle.scoring.proofs.score_frames.Tie as tie

@@ -3,9 +3,7 @@ use mathlib.Core.Path.{_≡_, refl, sym, _∙_, ap, ap₂}
 use mathlib.Core.List.{List}
 use Prim.Native.Nat.{ℕ, suc, _+_, _*_, _-_, _≤_, _<_}
 use native.Mathlib.Omega.{arith}
-use lib.IntN.{ℤ}
 use lib.ListN.{length, getD}
-use borrow.Author.Needs.{needs}
 use Rattle.arithmetic.specs.Sums.{sumBelow, bothTerms}
 use Rattle.arithmetic.proofs.Sums.{sum-ends}
 use Rattle.cubemap.specs.declared.Format.{Format}
@@ -25,19 +23,19 @@ abbrev rowWeights : Format → ℕ → ℕ → ℕ
 rowWeights format A n = sumBelow (λ m. weight format A m n) A
 
 -- for every format
-record Summed (size : ℕ) (first second : Place → ℕ) (weights : List ℕ) (errors sum row last : ℕ) : Type 0 where
-  meet : row + last ≡ size
-  passed : row ≤ last + 1
+record Summed (size : ℕ) (first second : Place → ℕ) (weights : List ℕ) (errors sum row opposite : ℕ) : Type 0 where
+  meet : row + opposite ≡ size
+  passed : row ≤ opposite + 1
   whole : length weights ≡ 512
   error-sum : (format : Format) → Running (λ n. bothTerms (rowErrors format size first second) n (size - suc n)) 6752101308825600 row errors
   weight-sum : (format : Format) → Running (λ n. bothTerms (rowWeights format size) n (size - suc n)) 67108864 row sum
 
 abbrev Inv-loop : tie.InvT-loop
-Inv-loop size first first-steps second second-steps weights₀ errors₀ sum₀ row₀ last₀ weights errors sum row last =
-    Summed size (sampleBy first first-steps) (sampleBy second second-steps) weights errors sum row last
+Inv-loop size first first-steps second second-steps weights₀ errors₀ sum₀ row₀ opposite₀ weights errors sum row opposite =
+    Summed size (sampleBy first first-steps) (sampleBy second second-steps) weights errors sum row opposite
 
 abbrev μ-loop : tie.MeasureT-loop
-μ-loop size first first-steps second second-steps weights₀ errors₀ sum₀ row₀ last₀ weights errors sum row last = last - row
+μ-loop size first first-steps second second-steps weights₀ errors₀ sum₀ row₀ opposite₀ weights errors sum row opposite = opposite - row
 
 loop-holds : tie.Need-loop-holds Inv-loop μ-loop
 loop-holds c = record {
@@ -48,8 +46,8 @@ loop-holds c = record {
   weight-sum = λ format. running-none _ 67108864;
 }
 
-sub-last : tie.Need-sub-last Inv-loop μ-loop
-sub-last c = omega arith
+sub-opposite : tie.Need-sub-opposite Inv-loop μ-loop
+sub-opposite c = omega arith
 
 weigh-row-requires : tie.Need-weigh-row-requires Inv-loop μ-loop
 weigh-row-requires c κs =
@@ -80,9 +78,9 @@ add-row c = omega arith
 loop-less : tie.Need-loop-less Inv-loop μ-loop
 loop-less c = omega arith
 
--- the row before `last` is opposite to `row`
-across-from : (size row last : ℕ) → row + last ≡ size → last - 1 ≡ size - suc row
-across-from size row last h = omega arith
+-- once it is one less, `opposite` is the row opposite to `row`
+across-from : (size row opposite : ℕ) → row + opposite ≡ size → opposite - 1 ≡ size - suc row
+across-from size row opposite h = omega arith
 
 loop-again : tie.Need-loop-again Inv-loop μ-loop
 loop-again c =
@@ -91,7 +89,7 @@ loop-again c =
     let w = c .before .before .before .before .weigh-row .ensures in
     let e = c .before .before .rows-error .ensures in
     let below : l .row < a .size = omega arith in
-    let o = across-from (a .size) (l .row) (l .last) (l .inv .meet) in
+    let o = across-from (a .size) (l .row) (l .opposite) (l .inv .meet) in
     record {
       meet = omega arith;
       passed = omega arith;
@@ -132,7 +130,7 @@ score-planes-spec =
     Inv-loop
     μ-loop
     loop-holds
-    sub-last
+    sub-opposite
     weigh-row-requires
     rows-error-requires
     add-errors

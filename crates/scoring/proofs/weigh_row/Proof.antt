@@ -1,6 +1,6 @@
 -- `weigh_row` meets its contract: the table is filled from both ends, whatever it held before.
 use mathlib.Core.Path.{_≡_, subst}
-use Prim.Native.Nat.{ℕ, _+_, _*_, _-_, _≤_, _<_}
+use Prim.Native.Nat.{ℕ, _+_, _-_, _<_}
 use native.Mathlib.Omega.{arith}
 use borrow.Author.Needs.{needs}
 use Rattle.scoring.proofs.Weighing.{Filled, filled-next, filled-all}

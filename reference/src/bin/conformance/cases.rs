@@ -78,6 +78,9 @@ const PLAIN: Case = Case {
     damage: Damage::None,
 };
 
+/// Smaller than the source of the plain case, and as large.
+const TARGET_SIZES: [u64; 2] = [2, 3];
+
 /// All groups, in order.
 pub fn all() -> impl Iterator<Item = Case> {
     sizes().chain(depths()).chain(rotation_numbers()).chain(layouts()).chain(cube_rotations()).chain(damages()).chain(codes())
@@ -96,11 +99,13 @@ fn sizes() -> impl Iterator<Item = Case> {
     })
 }
 
-/// Depths around both bounds, in every mix.
+/// Depths around both bounds, in every mix, to a smaller target and to one of the same size.
 fn depths() -> impl Iterator<Item = Case> {
-    [7, 8, 12, 13].into_iter().flat_map(|depth| {
-        let case = Case { depth, layouts: [0, 1], ..PLAIN };
-        (0..8).map(move |mix| case.with_mix(mix))
+    TARGET_SIZES.into_iter().flat_map(|target_size| {
+        [7, 8, 12, 13].into_iter().flat_map(move |depth| {
+            let case = Case { target_size, depth, layouts: [0, 1], ..PLAIN };
+            (0..8).map(move |mix| case.with_mix(mix))
+        })
     })
 }
 
@@ -116,10 +121,13 @@ fn rotation_numbers() -> impl Iterator<Item = Case> {
     })
 }
 
-/// Each layout of the source with each of the target, from CMP to ACP, cubic.
+/// Each layout of the source with each of the target, to a smaller target and to one of the same size, from CMP to ACP, cubic.
 fn layouts() -> impl Iterator<Item = Case> {
-    (0..LAYOUTS.len()).flat_map(|source_layout| {
-        (0..LAYOUTS.len()).map(move |target_layout| Case { layouts: [source_layout, target_layout], ..PLAIN }.with_mix(6))
+    TARGET_SIZES.into_iter().flat_map(|target_size| {
+        (0..LAYOUTS.len()).flat_map(move |source_layout| {
+            (0..LAYOUTS.len())
+                .map(move |target_layout| Case { target_size, layouts: [source_layout, target_layout], ..PLAIN }.with_mix(6))
+        })
     })
 }
 
@@ -135,7 +143,7 @@ fn cube_rotations() -> impl Iterator<Item = Case> {
 
 /// Each damage, to a smaller target and to one of the same size, from ACP to CMP, cubic.
 fn damages() -> impl Iterator<Item = Case> {
-    [2, 3].into_iter().flat_map(|target_size| {
+    TARGET_SIZES.into_iter().flat_map(|target_size| {
         DAMAGES.into_iter().map(move |damage| Case { target_size, layouts: [2, 1], damage, ..PLAIN }.with_mix(5))
     })
 }

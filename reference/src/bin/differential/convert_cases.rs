@@ -81,7 +81,7 @@ fn medium(comparison: &mut Comparison) {
     }
 }
 
-/// A handful of the largest sizes, and of sizes that are one too large.
+/// A handful of the largest sizes, and of sizes just outside the range.
 fn large(comparison: &mut Comparison) {
     for (sizes, mix) in
         [([512, 512], 0), ([512, 512], 7), ([512, 511], 5), ([511, 512], 6), ([511, 511], 4), ([2, 512], 3), ([64, 511], 1)]

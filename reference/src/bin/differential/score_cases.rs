@@ -172,7 +172,7 @@ fn medium(comparison: &mut Comparison) {
     }
 }
 
-/// A handful of the largest sizes, and of sizes that are one too large.
+/// A handful of the largest sizes, and of sizes just outside the range.
 fn large(comparison: &mut Comparison) {
     for size in [511, 512] {
         for (second, format) in SECONDS.into_iter().zip([size % 2, 1 - size % 2].into_iter().cycle()) {
