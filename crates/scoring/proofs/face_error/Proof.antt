@@ -1,14 +1,14 @@
 -- `face_error` meets its contract: after m columns the sum is that of the first m places of the row.
 use mathlib.Core.Path.{sym, _∙_, ap₂, subst}
 use mathlib.Core.List.{List}
-use Prim.Native.Nat.{ℕ, _*_, _-_, _≤_, _<_}
+use Prim.Native.Nat.{ℕ, _*_, _-_, _<_}
 use native.Mathlib.Omega.{arith}
 use lib.ListN.{getD}
 use Rattle.cubemap.specs.Score.{squaredDifference}
 use Rattle.indices.specs.declared.FaceSteps.{FaceSteps}
 use Rattle.indices.specs.Steps.{sampleBySteps}
 use Rattle.scoring.specs.Rows.{ScoredFace}
-use Rattle.scoring.proofs.Summing.{Running, running-none, running-next, running-all}
+use Rattle.scoring.proofs.Summing.{Summed, summed-none, summed-next, summed-all}
 use Rattle.scoring.proofs.Weighing.{entry-most}
 use Rattle.scoring.proofs.face_error.Statement.{statement}
 use Rattle.scoring.proofs.face_error.Tie as tie
@@ -17,19 +17,15 @@ use Rattle.scoring.proofs.face_error.Tie as tie
 abbrev term : List ℕ → FaceSteps → List ℕ → FaceSteps → List ℕ → ℕ → ℕ → ℕ
 term first s second t weights n m = getD weights m 0 * squaredDifference (sampleBySteps first s m n) (sampleBySteps second t m n)
 
-record Summed (size : ℕ) (f : ℕ → ℕ) (error column : ℕ) : Type 0 where
-  bounded : column ≤ size
-  running : Running f 1098974822400 column error
-
 abbrev Inv-loop : tie.InvT-loop
 Inv-loop size first first-steps second second-steps weights row error₀ column₀ error column =
-    Summed size (term first first-steps second second-steps weights row) error column
+    Summed (term first first-steps second second-steps weights row) 1098974822400 size column error
 
 abbrev μ-loop : tie.MeasureT-loop
 μ-loop size first first-steps second second-steps weights row error₀ column₀ error column = size - column
 
 loop-holds : tie.Need-loop-holds Inv-loop μ-loop
-loop-holds c = record { bounded = omega arith; running = running-none _ 1098974822400 }
+loop-holds c = summed-none _ 1098974822400 _
 
 sample-by-steps-requires : tie.Need-sample-by-steps-requires Inv-loop μ-loop
 sample-by-steps-requires c κs =
@@ -73,19 +69,17 @@ loop-again : tie.Need-loop-again Inv-loop μ-loop
 loop-again c =
     let s : tie.Start Inv-loop μ-loop = c .before .before .before .before .before .before .before .before in
     let l = c .before .before .before .before .before .loop in
-    record {
-      bounded = omega arith;
-      running = running-next (l .inv .running)
-          (c .weighted .ensures .0
-          ∙ ap₂ (λ x y. getD (s .args .weights .now) (l .column) 0 * squaredDifference x y)
-          (c .before .before .before .sample-by-steps .ensures .0) (c .before .before .sample-by-steps2 .ensures .0))
-          (c .weighted .ensures .1);
-    }
+    summed-next (l .inv) (c .before .before .before .before .loop-test .taken)
+    (c .weighted .ensures .0
+    ∙ ap₂ (λ x y. getD (s .args .weights .now) (l .column) 0 * squaredDifference x y)
+    (c .before .before .before .sample-by-steps .ensures .0) (c .before .before .sample-by-steps2 .ensures .0))
+    (c .weighted .ensures .1)
 
 returns : tie.Need-returns Inv-loop μ-loop
 returns c =
     let l = c .before .loop in
-    (running-all _ (l .inv .running) (omega arith), omega (arith, l .inv .running .small))
+    let all = summed-all (l .inv) (omega arith) in
+    (all .0, omega (arith, all .1))
 
 pub face-error-spec : {M : Type 1} → statement M
 face-error-spec =

@@ -1,13 +1,13 @@
 -- `faces_error` meets its contract: after f faces the sum is that of the first f faces' rows.
 use mathlib.Core.Path.{sym, _∙_, ap₂, subst}
 use mathlib.Core.List.{List}
-use Prim.Native.Nat.{ℕ, _-_, _≤_, _<_}
+use Prim.Native.Nat.{ℕ, _-_, _<_}
 use native.Mathlib.Omega.{arith}
 use lib.IntN.{ℤ}
 use Rattle.indices.specs.Steps.{stepsIn}
 use Rattle.indices.proofs.Stepping.{face-of}
 use Rattle.scoring.specs.Rows.{ScoredFace, ScoredPlane, faceError}
-use Rattle.scoring.proofs.Summing.{Running, running-none, running-next, running-all}
+use Rattle.scoring.proofs.Summing.{Summed, summed-none, summed-next, summed-all}
 use Rattle.scoring.proofs.faces_error.Statement.{statement}
 use Rattle.scoring.proofs.faces_error.Tie as tie
 
@@ -15,19 +15,15 @@ use Rattle.scoring.proofs.faces_error.Tie as tie
 abbrev term : ℕ → List ℕ → List ℤ → List ℕ → List ℤ → List ℕ → ℕ → ℕ → ℕ
 term size first s second t weights n f = faceError size first (stepsIn s f) second (stepsIn t f) weights n
 
-record Summed (f : ℕ → ℕ) (error face : ℕ) : Type 0 where
-  bounded : face ≤ 6
-  running : Running f 562675109068800 face error
-
 abbrev Inv-loop : tie.InvT-loop
 Inv-loop size first first-steps second second-steps weights row error₀ face₀ error face =
-    Summed (term size first first-steps second second-steps weights row) error face
+    Summed (term size first first-steps second second-steps weights row) 562675109068800 6 face error
 
 abbrev μ-loop : tie.MeasureT-loop
 μ-loop size first first-steps second second-steps weights row error₀ face₀ error face = 6 - face
 
 loop-holds : tie.Need-loop-holds Inv-loop μ-loop
-loop-holds c = record { bounded = omega arith; running = running-none _ 562675109068800 }
+loop-holds c = summed-none _ 562675109068800 6
 
 scored-face : {A : ℕ} {plane : List ℕ} {table : List ℤ} → ScoredPlane A plane table → (f : ℕ) → f < 6 → ScoredFace A plane (stepsIn table f)
 scored-face p f h = record { stepped = face-of (p .stepped) f h; shallow = p .shallow }
@@ -61,19 +57,14 @@ loop-less c = omega arith
 loop-again : tie.Need-loop-again Inv-loop μ-loop
 loop-again c =
     let a = c .before .before .before .before .before .before .before .args in
-    record {
-      bounded = omega arith;
-      running = running-next (c .before .before .before .before .loop .inv .running)
-          (c .face-error .ensures .0
-          ∙ ap₂ (λ from to. faceError (a .size) (a .first .now) from (a .second .now) to (a .weights .now) (a .row))
-          (c .before .before .steps-at .ensures) (c .before .steps-at2 .ensures))
-          (c .face-error .ensures .1);
-    }
+    summed-next (c .before .before .before .before .loop .inv) (omega arith)
+    (c .face-error .ensures .0
+    ∙ ap₂ (λ from to. faceError (a .size) (a .first .now) from (a .second .now) to (a .weights .now) (a .row))
+    (c .before .before .steps-at .ensures) (c .before .steps-at2 .ensures))
+    (c .face-error .ensures .1)
 
 returns : tie.Need-returns Inv-loop μ-loop
-returns c =
-    let l = c .before .loop in
-    (running-all 6 (l .inv .running) (omega arith), omega (arith, l .inv .running .small))
+returns c = summed-all (c .before .loop .inv) (omega arith)
 
 pub faces-error-spec : {M : Type 1} → statement M
 faces-error-spec =

@@ -1,25 +1,20 @@
 -- `row_weight` meets its contract: after m columns the sum is that of the first m weights.
 use mathlib.Core.Path.{refl}
-use mathlib.Core.List.{List}
-use Prim.Native.Nat.{ℕ, _-_, _≤_}
+use Prim.Native.Nat.{_-_}
 use native.Mathlib.Omega.{arith}
 use lib.ListN.{getD}
-use Rattle.scoring.proofs.Summing.{Running, running-none, running-next, running-all}
+use Rattle.scoring.proofs.Summing.{Summed, summed-none, summed-next, summed-all}
 use Rattle.scoring.proofs.row_weight.Statement.{statement}
 use Rattle.scoring.proofs.row_weight.Tie as tie
 
-record Summed (size : ℕ) (weights : List ℕ) (sum column : ℕ) : Type 0 where
-  bounded : column ≤ size
-  running : Running (λ m. getD weights m 0) 65536 column sum
-
 abbrev Inv-loop : tie.InvT-loop
-Inv-loop size weights sum₀ column₀ sum column = Summed size weights sum column
+Inv-loop size weights sum₀ column₀ sum column = Summed (λ m. getD weights m 0) 65536 size column sum
 
 abbrev μ-loop : tie.MeasureT-loop
 μ-loop size weights sum₀ column₀ sum column = size - column
 
 loop-holds : tie.Need-loop-holds Inv-loop μ-loop
-loop-holds c = record { bounded = omega arith; running = running-none _ 65536 }
+loop-holds c = summed-none _ 65536 _
 
 mul-sum : tie.Need-mul-sum Inv-loop μ-loop
 mul-sum c = omega arith
@@ -41,15 +36,14 @@ loop-less c = omega arith
 loop-again : tie.Need-loop-again Inv-loop μ-loop
 loop-again c =
     let l = c .before .before .loop in
-    record {
-      bounded = omega arith;
-      running = running-next (l .inv .running) refl (c .before .before .before .pre .1 (l .column) (c .before .loop-test .taken));
-    }
+    let inside = c .before .loop-test .taken in
+    summed-next (l .inv) inside refl (c .before .before .before .pre .1 (l .column) inside)
 
 returns : tie.Need-returns Inv-loop μ-loop
 returns c =
     let l = c .before .loop in
-    (running-all _ (l .inv .running) (omega arith), omega (arith, l .inv .running .small))
+    let all = summed-all (l .inv) (omega arith) in
+    (all .0, omega (arith, all .1))
 
 pub row-weight-spec : {M : Type 1} → statement M
 row-weight-spec =

@@ -23,7 +23,7 @@ abbrev rowWeights : Format → ℕ → ℕ → ℕ
 rowWeights format A n = sumBelow (λ m. weight format A m n) A
 
 -- for every format
-record Summed (size : ℕ) (first second : Place → ℕ) (weights : List ℕ) (errors sum row opposite : ℕ) : Type 0 where
+record RowsSummed (size : ℕ) (first second : Place → ℕ) (weights : List ℕ) (errors sum row opposite : ℕ) : Type 0 where
   meet : row + opposite ≡ size
   passed : row ≤ opposite + 1
   whole : length weights ≡ 512
@@ -32,7 +32,7 @@ record Summed (size : ℕ) (first second : Place → ℕ) (weights : List ℕ) (
 
 abbrev Inv-loop : tie.InvT-loop
 Inv-loop size first first-steps second second-steps weights₀ errors₀ sum₀ row₀ opposite₀ weights errors sum row opposite =
-    Summed size (sampleBy first first-steps) (sampleBy second second-steps) weights errors sum row opposite
+    RowsSummed size (sampleBy first first-steps) (sampleBy second second-steps) weights errors sum row opposite
 
 abbrev μ-loop : tie.MeasureT-loop
 μ-loop size first first-steps second second-steps weights₀ errors₀ sum₀ row₀ opposite₀ weights errors sum row opposite = opposite - row
