@@ -1,11 +1,16 @@
 -- Laws of tests: what a passed test says of its parts, and what it chooses.
-use mathlib.Core.Path.{_≡_, refl, sym, subst}
+use mathlib.Core.Path.{_≡_, refl, sym, subst, _∙_}
 use mathlib.Core.Logic.{_⊎_, inl, inr}
-use mathlib.Core.Bool.{Bool, true, false, _&&_, _||_, cond}
+use mathlib.Core.Bool.{Bool, true, false, not, _&&_, _||_, cond}
 use lib.Dec.{T}
+use borrow.Author.Tests.{not-false}
 
 pub passes : {b : Bool} → b ≡ true → T b
 passes e = subst T (sym e) tt
+
+-- behind an exit that is taken where the answer r to a test is no, the test passes
+pub not-refused : {r b : Bool} → r ≡ b → not r ≡ false → T b
+not-refused {r} e h = passes (sym e ∙ not-false r h)
 
 pub fails : {b : Bool} → b ≡ false → T b → ⊥
 fails e t = subst T e t

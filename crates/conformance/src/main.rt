@@ -2,10 +2,11 @@
 // part gives can be compared byte by byte with what a program that was written from the paper gives. The conversions try each number of a call at the
 // ends of its range and beyond them, each layout with each, whole-cube turns, and damaged buffers.
 //
-// Behind a heading, a line holds 20 numbers: source size, target size, depth, source format, target format, sampler, source layout, target layout,
-// the turn's four numbers, damage; then what the conversion answered, the number of its refusal (0 where there is none) and the index, and the digest
-// of the target's bytes after the call; then what a score of the source against the target answered, with the source's size, depth and format: the
-// number of its refusal and the index, and the two numbers in its answer buffer, which are 0 where it wrote none.
+// Behind a heading, a line holds 26 numbers: source size, target size, depth, source format, target format, sampler, source layout, target layout,
+// the turn's four numbers, damage; then what the conversion answered, the number of its refusal (0 where there is none) and the index, the digest
+// of the target's bytes after the call, and six single samples of it, one of each face; then what a score of the source against the target answered,
+// with the source's size, depth and format: the number of its refusal and the index, and the two numbers in its answer buffer, which are 0 where it
+// wrote none.
 //
 // Layouts: 0 is the usual one; 1, 2 and 3 are valid too; 4 has a face twice, 5 a slot turned four times, 6 only eleven bytes.
 //
@@ -14,14 +15,16 @@
 ghost use mathlib.Core.Path.{_≡_};
 ghost use Prim.Native.Nat.{_+_, _*_, _/_, _%_, _^_, _≤_, _<_, min};
 ghost use lib.ListN.{length};
+use cubemap::Place;
 use cubemap::Rotation;
+use cubemap::Shape;
 use libc::STDOUT_FILENO;
 
 // The most bytes that are lent: a frame of face size 512 and one byte more.
 const ROOM: usize = 3145729;
 
-// The most bytes of a line: 20 numbers, each with a sign, 20 digits and the byte behind them.
-const LINE: usize = 440;
+// The most bytes of a line: 26 numbers, each with a sign, 20 digits and the byte behind them.
+const LINE: usize = 572;
 
 // Each byte of the target before the call.
 const UNWRITTEN: u8 = 165;
@@ -50,10 +53,11 @@ struct Scored {
     weights: u64,
 }
 
-// What a conversion came to: the code that the call returned, the digest of the target, and the score of the source against it.
+// What a conversion came to: the code that the call returned, the digest of the target and six of its samples, and the score of the source against it.
 struct Outcome {
     code: u64,
     digest: u64,
+    samples: [u64; 6],
     score: Scored,
 }
 
@@ -134,6 +138,38 @@ fn digest_of(bytes: &[u8]) -> u64
         i += 1;
     }
     h
+}
+
+// The sample at column 0 in the last row of a face, read through a view of the frame; 0 where shape, layout and bytes are not those of a frame.
+fn corner_sample(shape: Shape, layout: &[u8], bytes: &[u8], face: u64) -> u64
+    requires { ⌜ face < 6 ⌝ }
+{
+    if !frame::size_ok(shape.size) {
+        return 0;
+    }
+    if !frame::layout_ok(layout) {
+        return 0;
+    }
+    if !frame::length_ok(shape, bytes.len()) {
+        return 0;
+    }
+    let corner = Place {
+        face: face,
+        column: 0,
+        row: shape.size - 1,
+    };
+    view::read_sample(bytes, shape, frame::layout_of(layout), corner)
+}
+
+// The corner samples of the six faces.
+fn corner_samples(shape: Shape, layout: &[u8], bytes: &[u8]) -> [u64; 6] {
+    let mut samples = [0; 6];
+    let mut face: u64 = 0;
+    while face < 6 {
+        samples[face as usize] = corner_sample(shape, layout, bytes, face);
+        face += 1;
+    }
+    samples
 }
 
 // ---- layouts
@@ -268,10 +304,17 @@ fn convert_and_score(
     fill_target(target);
     let code = convert(case, source_layout, target_layout, source, target);
     let digest = digest_of(target);
+    let shape = Shape {
+        size: case.target_size,
+        depth: case.depth,
+        format: case.target_format,
+    };
+    let samples = corner_samples(shape, target_layout, target);
     let scored = score(case, source_layout, target_layout, source, target);
     Outcome {
         code: code,
         digest: digest,
+        samples: samples,
         score: scored,
     }
 }
@@ -367,10 +410,18 @@ fn put_turn(text: &mut [u8], at: usize, turn: Rotation) -> usize
     put_signed(text, fourth, turn.e3)
 }
 
+// Six samples.
+fn put_samples(text: &mut [u8], at: usize, samples: [u64; 6]) -> usize
+    requires { ⌜ at + 126 ≤ length (now text) ⌝ }
+    ensures { λ r. ⌜ r ≤ at + 126 ⌝ }
+{
+    put_numbers(text, at, &samples)
+}
+
 // The line of a conversion: a code is the refusal's number plus 256 times its index.
 fn put_line(text: &mut [u8], case: Case, outcome: Outcome) -> usize
-    requires { ⌜ length (now text) ≡ 440 ⌝ }
-    ensures { λ r. ⌜ r ≤ 440 ⌝ }
+    requires { ⌜ length (now text) ≡ 572 ⌝ }
+    ensures { λ r. ⌜ r ≤ 572 ⌝ }
 {
     let numbers = [
         case.source_size,
@@ -382,20 +433,21 @@ fn put_line(text: &mut [u8], case: Case, outcome: Outcome) -> usize
         case.source_layout,
         case.target_layout,
     ];
-    let score = outcome.score;
     let answer = [
         case.damage,
         outcome.code % 256,
         outcome.code / 256,
         outcome.digest,
-        score.code % 256,
-        score.code / 256,
-        score.errors,
     ];
+    let samples = outcome.samples;
+    let score = outcome.score;
+    let scored = [score.code % 256, score.code / 256, score.errors];
     let turn = case.turn;
     let turn_at = put_numbers(text, 0, &numbers);
     let answer_at = put_turn(text, turn_at, turn);
-    let weights_at = put_numbers(text, answer_at, &answer);
+    let samples_at = put_numbers(text, answer_at, &answer);
+    let score_at = put_samples(text, samples_at, samples);
+    let weights_at = put_numbers(text, score_at, &scored);
     put_number(text, weights_at, score.weights, b'\n')
 }
 
@@ -632,7 +684,7 @@ fn print_group(group: u64, source: &mut [u8; ROOM], target: &mut [u8; ROOM]) -> 
 fn print_all(source: &mut [u8; ROOM], target: &mut [u8; ROOM]) -> bool {
     let mut written = io::write_all(
         STDOUT_FILENO,
-        b"source target depth formats sampler layouts turn damage number index digest score score-index errors weights\n",
+        b"source target depth formats sampler layouts turn damage number index digest samples score score-index errors weights\n",
     );
     let mut group = 1;
     while group < 8 {

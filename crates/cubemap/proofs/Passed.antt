@@ -7,8 +7,8 @@ use native.Mathlib.Nat.{pow-le-pow-right}
 use native.Mathlib.Omega.{arith}
 use lib.Dec.{T, eqb, leb, leb→le, le→leb, T-not}
 use lib.ListN.{length}
-use borrow.Author.Tests.{not-true, not-false, lt-leb}
-use Rattle.arithmetic.proofs.Tests.{passes, and-left, and-right, and-both, and-false, All3, and3, cond-true, cond-both}
+use borrow.Author.Tests.{not-true, lt-leb}
+use Rattle.arithmetic.proofs.Tests.{not-refused, and-left, and-right, and-both, and-false, All3, and3, cond-true, cond-both}
 use Rattle.cubemap.specs.declared.Ray.{Ray}
 use Rattle.cubemap.specs.Interface.{Answer, answer, accepted, isAccepted}
 use Rattle.cubemap.specs.Checks.{ConvertSettings, ScoreSettings, targetShape, Check, check, firstFailed, between, sizeOK, depthOK, codeOK}
@@ -82,7 +82,7 @@ module _ {c : Check} {rest : List Check} {a : Answer} {r : Bool} (left : Remaini
   pub next-holds : not r ≡ false → Remaining rest a
   unfolding firstFailed
   next-holds h = record {
-    decide = sym (cond-true (c .holds) (firstFailed rest) (answer (c .number) (c .index)) (passes (sym e ∙ not-false r h))) ∙ left .decide;
+    decide = sym (cond-true (c .holds) (firstFailed rest) (answer (c .number) (c .index)) (not-refused e h)) ∙ left .decide;
   }
 
   pub next-fails : not r ≡ true → answer (c .number) (c .index) ≡ a

@@ -12,7 +12,7 @@ use Rattle.arithmetic.proofs.Ring.{var, con, _⊕_, _⊗_, solve}
 use Rattle.cubemap.specs.declared.Format.{Format}
 use Rattle.cubemap.specs.declared.Ray.{Ray}
 use Rattle.cubemap.specs.Frames.{place, Spot, spot, quarterTurns}
-use Rattle.cubemap.specs.PlaceToRay.{N, ray, scale, faceCoordinate, table3, rayOf}
+use Rattle.cubemap.specs.PlaceToRay.{N, scale, faceCoordinate, table3, rayOf}
 use Rattle.cubemap.specs.Checks.{rayInRange}
 use Rattle.cubemap.proofs.FaceCoordinates.{coordinates}
 use Rattle.cubemap.proofs.Faces.{table3-sizes, rayOf-table3}

@@ -5,8 +5,7 @@ use native.Mathlib.Omega.{arith}
 use lib.Dec.{T}
 use lib.ListN.{length, drop}
 use borrow.Author.Needs.{needs}
-use borrow.Author.Tests.{not-false}
-use Rattle.arithmetic.proofs.Tests.{passes}
+use Rattle.arithmetic.proofs.Tests.{not-refused}
 use Rattle.cubemap.specs.declared.Converted.{Converted}
 use Rattle.cubemap.specs.Interface.{answer, accepted}
 use Rattle.cubemap.specs.Frames.{bytesIn}
@@ -67,7 +66,7 @@ readable : (c : tie.Else1) → Readable (start8 c)
 readable c =
     let l = c .before .length-ok in
     let p = passed (c .before .before) in
-    (p .source-size .at-most, p .depth, length-is _ _ (passes (sym (l .ensures) ∙ not-false (l .result) (c .if1 .left))))
+    (p .source-size .at-most, p .depth, length-is _ _ (not-refused (l .ensures) (c .if1 .left)))
 
 held9 : (c : tie.Else2) → Held 2 (start8 (c .before .before))
 held9 c = next-holds (held8 (c .before .before)) (c .before .length-ok2 .ensures) (c .if2 .left)

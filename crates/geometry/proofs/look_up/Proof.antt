@@ -2,9 +2,9 @@
 use mathlib.Core.Path.{sym, _∙_, ap}
 use native.Mathlib.Omega.{arith}
 use lib.Dec.{T}
-use borrow.Author.Tests.{not-true, not-false}
+use borrow.Author.Tests.{not-true}
 use borrow.Author.Needs.{needs}
-use Rattle.arithmetic.proofs.Tests.{passes}
+use Rattle.arithmetic.proofs.Tests.{not-refused}
 use Rattle.cubemap.specs.Interface.{accepted}
 use Rattle.cubemap.specs.RayToPlace.{locate}
 use Rattle.cubemap.specs.Checks.{sizeOK, codeOK, rayInRange}
@@ -21,7 +21,7 @@ code-ok : (c : tie.Else3) → T (codeOK (c .before .before .before .args .format
 code-ok c = code-holds (c .before .before .before .args .format) (omega arith)
 
 range-ok : (c : tie.Else4) → T (rayInRange (c .before .before .before .before .before .args .v))
-range-ok c = passes (sym (c .before .in-range .ensures) ∙ not-false (c .before .in-range .result) (c .if4 .left))
+range-ok c = not-refused (c .before .in-range .ensures) (c .if4 .left)
 
 passed : (c : tie.Else5) → let s : tie.Start = c .before .before .before .before .before .before .before in
     LookUpPassed (s .args .size) (s .args .format) (s .args .v)
@@ -29,7 +29,7 @@ passed c = record {
   size = size-ok (c .before .before .before .before .before);
   format-code = code-ok (c .before .before .before .before);
   in-range = range-ok (c .before .before);
-  nonzero = passes (sym (c .before .nonzero .ensures) ∙ not-false (c .before .nonzero .result) (c .if5 .left));
+  nonzero = not-refused (c .before .nonzero .ensures) (c .if5 .left);
 }
 
 returns : tie.Need-returns

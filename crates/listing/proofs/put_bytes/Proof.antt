@@ -6,8 +6,6 @@ use Rattle.listing.specs.Texts.{Put}
 use Rattle.listing.proofs.Texts.{put-next, put-all, put-length}
 use Rattle.listing.proofs.put_bytes.Statement.{statement}
 use Rattle.listing.proofs.put_bytes.Tie as tie
-use Rattle.listing.proofs.put_bytes.Reads as reads
-use Rattle.listing.proofs.put_bytes.Lts as lts
 
 abbrev Inv-loop : tie.InvT-loop
 Inv-loop text₀ at more i₀ text i = (i ≤ length more) × Put text₀ at (take i more) (at + i) text

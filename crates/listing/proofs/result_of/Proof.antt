@@ -4,8 +4,8 @@ use native.Mathlib.Nat.{add-zero}
 use native.Mathlib.Omega.{arith}
 use lib.Dec.{T}
 use lib.ListN.{length}
-use borrow.Author.Tests.{not-true, not-false}
-use Rattle.arithmetic.proofs.Tests.{passes}
+use borrow.Author.Tests.{not-true}
+use Rattle.arithmetic.proofs.Tests.{not-refused}
 use Rattle.cubemap.specs.Listing.{isWhole, isRayRecord}
 use Rattle.cubemap.specs.Outcomes.{lookUpResult}
 use Rattle.cubemap.proofs.Records.{whole-is, ray-record-length, record-cut, record-kind, record-ray}
@@ -14,10 +14,10 @@ use Rattle.listing.proofs.result_of.Statement.{statement}
 use Rattle.listing.proofs.result_of.Tie as tie
 
 whole : (c : tie.Else1) → T (isWhole (c .before .before .args .bytes .now))
-whole c = let s = c .before .before in passes (sym (s .pre) ∙ not-false (s .args .whole) (c .if1 .left))
+whole c = let s = c .before .before in not-refused (s .pre) (c .if1 .left)
 
 ray-record : (c : tie.Else2) → T (isRayRecord (c .before .before .before .before .args .bytes .now))
-ray-record c = passes (sym (c .before .is-ray-record .ensures) ∙ not-false (c .before .is-ray-record .result) (c .if2 .left))
+ray-record c = not-refused (c .before .is-ray-record .ensures) (c .if2 .left)
 
 -- six leading bytes and a body of 15
 long : (c : tie.Else2) → 21 ≤ length (c .before .before .before .before .args .bytes .now)

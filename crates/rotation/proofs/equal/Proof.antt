@@ -1,8 +1,8 @@
 use mathlib.Core.Path.{sym, _∙_, ap}
 use lib.Dec.{T}
 use borrow.Author.Needs.{needs}
-use borrow.Author.Tests.{not-true, not-false}
-use Rattle.arithmetic.proofs.Tests.{passes, and-left, and-right}
+use borrow.Author.Tests.{not-true}
+use Rattle.arithmetic.proofs.Tests.{not-refused, and-left, and-right}
 use Rattle.cubemap.specs.declared.Rotation.{Rotation}
 use Rattle.cubemap.specs.Interface.{accepted}
 use Rattle.cubemap.specs.Checks.{rotationInRange}
@@ -25,7 +25,7 @@ module _ (c : tie.Else1) where
   b = c .before .before .args .second
 
   in-range : T (bothInRange a b)
-  in-range = passes (sym (c .before .both-in-range .ensures) ∙ not-false (c .before .both-in-range .result) (c .if1 .left))
+  in-range = not-refused (c .before .both-in-range .ensures) (c .if1 .left)
 
 returns : tie.Need-returns
 returns c =
@@ -50,7 +50,7 @@ returns-3 c =
     let n = c .before .before .both-nonzero in
     let r = c .before .before .before in
     ap (λ s. result accepted (equalValues s)) (c .same-rotation .ensures)
-    ∙ sym (equal-accepted (a r) (b r) (in-range r) (passes (sym (n .ensures) ∙ not-false (n .result) (c .before .if2 .left))))
+    ∙ sym (equal-accepted (a r) (b r) (in-range r) (not-refused (n .ensures) (c .before .if2 .left)))
 
 pub equal-spec : {M : Type 1} → statement M
 equal-spec =

@@ -1,8 +1,8 @@
 use mathlib.Core.Path.{_≡_, sym, _∙_, ap}
 use lib.Dec.{T}
 use borrow.Author.Needs.{needs}
-use borrow.Author.Tests.{not-true, not-false}
-use Rattle.arithmetic.proofs.Tests.{passes, and-left, and-right}
+use borrow.Author.Tests.{not-true}
+use Rattle.arithmetic.proofs.Tests.{not-refused, and-left, and-right}
 use Rattle.cubemap.specs.declared.Rotation.{Rotation}
 use Rattle.cubemap.specs.Interface.{accepted}
 use Rattle.cubemap.specs.Checks.{rotationInRange}
@@ -29,7 +29,7 @@ module _ (c : tie.Else1) where
   b = c .before .before .args .later
 
   in-range : T (bothInRange a b)
-  in-range = passes (sym (c .before .both-in-range .ensures) ∙ not-false (c .before .both-in-range .result) (c .if1 .left))
+  in-range = not-refused (c .before .both-in-range .ensures) (c .if1 .left)
 
 returns : tie.Need-returns
 returns c =
@@ -63,22 +63,22 @@ module _ (c : tie.After-in-range) where
   later = b ranges
 
   both-nonzero : T (bothNonzero first later)
-  both-nonzero = let n = nonzero .before .both-nonzero in passes (sym (n .ensures) ∙ not-false (n .result) (nonzero .if2 .left))
+  both-nonzero = let n = nonzero .before .both-nonzero in not-refused (n .ensures) (nonzero .if2 .left)
 
-  folded-is : rotationInRange (compose first later) ≡ c .in-range .result
-  folded-is = sym (c .in-range .ensures ∙ ap rotationInRange (c .before .compose .ensures))
+  folded-is : c .in-range .result ≡ rotationInRange (compose first later)
+  folded-is = c .in-range .ensures ∙ ap rotationInRange (c .before .compose .ensures)
 
 returns-3 : tie.Need-returns-3
 returns-3 c =
     let t = c .before in
-    sym (fold-beyond (first t) (later t) (in-range (ranges t)) (both-nonzero t) (folded-is t ∙ not-true (t .in-range .result) (c .if3 .taken)))
+    sym (fold-beyond (first t) (later t) (in-range (ranges t)) (both-nonzero t) (sym (folded-is t) ∙ not-true (t .in-range .result) (c .if3 .taken)))
 
 returns-4 : tie.Need-returns-4
 returns-4 c =
     let t = c .before in
     ap (λ s. result accepted (foldValues s)) (t .before .compose .ensures)
     ∙ sym (fold-accepted (first t) (later t) (in-range (ranges t)) (both-nonzero t)
-    (passes (folded-is t ∙ not-false (t .in-range .result) (c .if3 .left))))
+    (not-refused (folded-is t) (c .if3 .left)))
 
 pub fold-spec : {M : Type 1} → statement M
 fold-spec =

@@ -1,12 +1,11 @@
 -- `score` meets its contract: each exit is the first check that fails, and behind the last one are the sums.
-use mathlib.Core.Path.{_≡_, sym, _∙_, ap}
+use mathlib.Core.Path.{_≡_, _∙_, ap}
 use mathlib.Core.List.{List}
 use Prim.Native.Nat.{ℕ, _≤_}
 use lib.Dec.{T}
 use lib.ListN.{length, drop}
 use borrow.Author.Needs.{needs}
-use borrow.Author.Tests.{not-false}
-use Rattle.arithmetic.proofs.Tests.{passes}
+use Rattle.arithmetic.proofs.Tests.{not-refused}
 use Rattle.cubemap.specs.declared.Refusal.{Refusal}
 use Rattle.cubemap.specs.Interface.{formatOf, accepted, answer}
 use Rattle.cubemap.specs.Frames.{bytesIn}
@@ -88,10 +87,10 @@ held8 c = next-holds (held7 (c .before .before)) (c .before .samples-ok2 .ensure
 
 -- what code asks of a frame before it looks at its samples
 size-most : (c : tie.Else1) → start1 c .args .shape .size ≤ 512
-size-most c = size-range _ (passes (sym (c .before .size-ok .ensures) ∙ not-false (c .before .size-ok .result) (c .if1 .left))) .at-most
+size-most c = size-range _ (not-refused (c .before .size-ok .ensures) (c .if1 .left)) .at-most
 
 depth-fits : (c : tie.Else2) → T (depthOK (start2 c .args .shape .depth))
-depth-fits c = passes (sym (c .before .depth-ok .ensures) ∙ not-false (c .before .depth-ok .result) (c .if2 .left))
+depth-fits c = not-refused (c .before .depth-ok .ensures) (c .if2 .left)
 
 abbrev Readable : tie.Start → List ℕ → Type 0
 Readable s bytes =
@@ -107,7 +106,7 @@ first-readable c =
     let d : tie.Else2 = else2 (c .before .before) in (
       size-most (d .before .before),
       depth-fits d,
-      length-is _ _ (passes (sym (c .before .length-ok .ensures) ∙ not-false (c .before .length-ok .result) (c .if5 .left))),
+      length-is _ _ (not-refused (c .before .length-ok .ensures) (c .if5 .left)),
     )
 
 second-readable : (c : tie.Else6) → Readable (start6 c) (second (start6 c))
@@ -115,7 +114,7 @@ second-readable c =
     let d : tie.Else2 = else2 (c .before .before .before .before) in (
       size-most (d .before .before),
       depth-fits d,
-      length-is _ _ (passes (sym (c .before .length-ok2 .ensures) ∙ not-false (c .before .length-ok2 .result) (c .if6 .left))),
+      length-is _ _ (not-refused (c .before .length-ok2 .ensures) (c .if6 .left)),
     )
 
 -- ---- the answers

@@ -1,6 +1,6 @@
 //! Writes what the reference gives for a fixed list of conversions, a line for each: the call, its number and index, a digest of
-//! the target afterwards, and what a score of the source with that target gives. Another program that runs the same list writes
-//! the same text.
+//! the target afterwards and six of its samples, and what a score of the source with that target gives. Another program that runs
+//! the same list writes the same text.
 
 mod cases;
 mod run;
@@ -9,7 +9,7 @@ use std::io::Write;
 
 /// A word for each number of a line, or for the numbers of one sort.
 const HEADING: &str =
-    "source target depth formats sampler layouts turn damage number index digest score score-index errors weights";
+    "source target depth formats sampler layouts turn damage number index digest samples score score-index errors weights";
 
 fn main() -> std::io::Result<()> {
     let mut output = std::io::stdout().lock();

@@ -2,6 +2,8 @@
 
 use crate::cases::{Case, Damage, LAYOUTS};
 use reference::calls::{convert, score, ConvertArguments, ScoreArguments};
+use reference::checks::{self, Refusal};
+use reference::frames::{index_of, samples, Place};
 
 /// No frame is lent more bytes than one of face size 512 has.
 const MOST_BYTES: u64 = 12 * 512 * 512;
@@ -9,8 +11,8 @@ const MOST_BYTES: u64 = 12 * 512 * 512;
 /// Every byte of the target before the call.
 const BEFORE: u8 = 165;
 
-/// Sizes, depth, formats, sampler, numbers of the layouts, turn, number of the damage; then the number, the index and the digest;
-/// then the score's number, its index and its two sums. All are decimal, with single spaces.
+/// Sizes, depth, formats, sampler, numbers of the layouts, turn, number of the damage; then the number, the index, the digest and
+/// the six samples; then the score's number, its index and its two sums. All are decimal, with single spaces.
 pub fn line(case: &Case) -> String {
     let (source, mut target) = (source(case), target(case));
     let code = converted(case, &source, &mut target);
@@ -19,8 +21,9 @@ pub fn line(case: &Case) -> String {
         [case.source_size, case.target_size, case.depth, case.source_format, case.target_format, case.sampler].map(decimal);
     let (layouts, rotation) = (case.layouts.map(decimal), case.rotation.map(decimal));
     let outcome = [case.damage as u64, code % 256, code / 256, digest(&target)].map(decimal);
+    let samples = corner_samples(case, &target).unwrap_or([0; 6]).map(decimal);
     let score = [score_code % 256, score_code / 256, errors, weights].map(decimal);
-    [&settings[..], &layouts[..], &rotation[..], &outcome[..], &score[..]].concat().join(" ")
+    [&settings[..], &layouts[..], &rotation[..], &outcome[..], &samples[..], &score[..]].concat().join(" ")
 }
 
 fn decimal(number: impl ToString) -> String {
@@ -59,6 +62,16 @@ fn scored(case: &Case, source: &[u8], target: &[u8]) -> (u64, [u64; 2]) {
     let mut answer = [[0; 8]; 2];
     let code = score(arguments, answer.as_flattened_mut());
     (code, answer.map(u64::from_le_bytes))
+}
+
+/// The target's sample at column 0 in the last row of each face, where the target is a frame of its size and layout.
+fn corner_samples(case: &Case, target: &[u8]) -> Result<[u16; 6], Refusal> {
+    let size = checks::target_size(case.target_size.into())?;
+    let layout = checks::layout(LAYOUTS[case.layouts[1]])?;
+    checks::second_length(target.len(), size)?;
+    let by_index: Vec<u16> = samples(target).collect();
+    let corner = |face| Place { face, column: 0, row: size - 1 };
+    Ok([0, 1, 2, 3, 4, 5].map(|face| by_index[index_of(&layout, size, corner(face)) as usize]))
 }
 
 /// A frame of face size A is lent 12·A² bytes, but no more than the largest frame has.
