@@ -43,6 +43,16 @@ impl Call {
         [32, 8, 24][self.kind()]
     }
 
+    /// The numbers among the arguments, in the order of the prototype and in two's complement.
+    pub fn numbers(&self) -> Vec<u64> {
+        match *self {
+            Call::Fold { first, later: second } | Call::Equal { first, second } => {
+                first.into_iter().chain(second).map(|number| number as u64).collect()
+            }
+            Call::LookUp { size, format, ray: [x, y, z] } => vec![size, format, x as u64, y as u64, z as u64],
+        }
+    }
+
     /// What the library returns.
     ///
     /// # Safety

@@ -4,6 +4,7 @@ use crate::call::Call;
 use crate::coverage::Coverage;
 use crate::frame_call::{FrameCall, LONGEST_FRAME};
 use crate::lent::{self, Lent};
+use crate::record::Record;
 use crate::score::ScoreCall;
 use reference::random::Random;
 use std::ffi::c_int;
@@ -68,6 +69,8 @@ impl Lending {
 pub struct Comparison {
     pub random: Random,
     pub coverage: Coverage,
+    /// Where a part of the compared calls is recorded, if anywhere.
+    pub record: Option<Record>,
     answer: Lent,
     /// What the calls that are lent frames are lent: two layouts, two frames, and an answer buffer where there is one.
     buffers: [Lent; 5],
@@ -75,11 +78,12 @@ pub struct Comparison {
 }
 
 impl Comparison {
-    pub fn new(random: Random) -> Comparison {
+    pub fn new(random: Random, record: Option<Record>) -> Comparison {
         lent::at_fault(report_fault);
         let longest = [MOST_BYTES, MOST_BYTES, LONGEST_FRAME, LONGEST_FRAME, MOST_BYTES];
         let buffers = longest.map(|bytes| Lent::new(FRONT + bytes));
-        Comparison { random, coverage: Coverage::default(), answer: Lent::new(FRONT + MOST_BYTES), buffers, differences: 0 }
+        let (coverage, answer) = (Coverage::default(), Lent::new(FRONT + MOST_BYTES));
+        Comparison { random, coverage, record, answer, buffers, differences: 0 }
     }
 
     pub fn differences(&self) -> u32 {
@@ -126,6 +130,9 @@ impl Comparison {
             self.differ();
         }
         self.coverage.note(&call, expected_code % 256, length);
+        if let (Some(record), false) = (&mut self.record, null) {
+            record.offer(call.kind(), || call.numbers(), &[&before[FRONT..]], expected_code, &expected[FRONT..]);
+        }
     }
 
     /// Compares a call that is lent frames, in each way of lending that makes a difference. Returns what the library left in the
@@ -175,6 +182,9 @@ impl Comparison {
             self.differ();
         }
         call.note(&mut self.coverage, expected_code % 256, lending);
+        if let (Some(record), Lending::Apart) = (&mut self.record, lending) {
+            record.offer(Framed::KIND, || call.numbers(), &buffers, expected_code, &expected[COUNT - 1][FRONT..]);
+        }
         self.buffers[COUNT - 1].last(buffers[COUNT - 1].len()).to_vec()
     }
 

@@ -51,11 +51,17 @@ impl ConvertCall {
 }
 
 impl FrameCall<4> for ConvertCall {
+    const KIND: usize = 3;
     const BUFFERS: [&'static str; 4] = ["source layout", "target layout", "source", "target"];
     const QUESTIONS: &'static [u64] = &[1, 2, 3, 4, 5, 6, 7, 8, 9, 10];
 
     fn buffers(&self) -> [&[u8]; 4] {
         [&self.layouts[0], &self.layouts[1], &self.frames[0], &self.frames[1]]
+    }
+
+    fn numbers(&self) -> Vec<u64> {
+        let rotation = self.rotation.map(|number| number as u64);
+        [&self.sizes[..], &[self.depth], &self.codes, &rotation].concat()
     }
 
     unsafe fn of_library(&self, pointers: [*mut u8; 4]) -> u64 {

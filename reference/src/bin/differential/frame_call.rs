@@ -10,6 +10,9 @@ pub const LONGEST_FRAME: usize = 12 * 513 * 513 + 2;
 
 /// A call with so many buffers, made of the library and of the reference. It is displayed without the bytes of its frames.
 pub trait FrameCall<const COUNT: usize>: fmt::Display {
+    /// Its place among all calls, behind those of `Call`.
+    const KIND: usize;
+
     /// What is lent, in the order of the arguments: two layouts, two frames and what else there is. The last may be written.
     const BUFFERS: [&'static str; COUNT];
 
@@ -17,6 +20,9 @@ pub trait FrameCall<const COUNT: usize>: fmt::Display {
     const QUESTIONS: &'static [u64];
 
     fn buffers(&self) -> [&[u8]; COUNT];
+
+    /// The numbers among the arguments, in the order of the prototype and in two's complement.
+    fn numbers(&self) -> Vec<u64>;
 
     /// What the library returns.
     ///

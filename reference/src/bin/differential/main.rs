@@ -1,6 +1,6 @@
 //! Compares libwelchodrys.a with the reference, call by call: the returned code and every byte of each lent buffer. Each ends at a
 //! forbidden page, and those that a call may write hold random bytes before it. The seed of the random numbers may be given as the
-//! argument.
+//! first argument, and as the second one a file to record a part of the calls in, for the comparison from C.
 
 mod call;
 mod cases;
@@ -14,6 +14,7 @@ mod frame_call;
 mod frame_cases;
 mod frame_coverage;
 mod lent;
+mod record;
 mod score;
 mod score_cases;
 mod score_coverage;
@@ -21,31 +22,51 @@ mod score_coverage;
 use call::Call;
 use comparison::Comparison;
 use convert::ConvertCall;
+use coverage::Coverage;
+use record::{Record, KINDS};
 use reference::random::Random;
 use score::ScoreCall;
 use std::process::ExitCode;
 
+/// The calls' names, in the order of their kinds.
+const NAMES: [&str; KINDS] = [Call::NAMES[0], Call::NAMES[1], Call::NAMES[2], ConvertCall::NAME, ScoreCall::NAME];
+
 fn main() -> ExitCode {
-    let seed = match std::env::args().nth(1).map(|argument| argument.parse()) {
+    let mut arguments = std::env::args().skip(1);
+    let seed = match arguments.next().map(|argument| argument.parse()) {
         None => 1,
         Some(Ok(seed)) => seed,
         Some(Err(_)) => {
-            println!("usage: differential [SEED], where SEED is a whole number below 2^64");
+            println!("usage: differential [SEED [RECORD]], where SEED is a whole number below 2^64, and RECORD a file to write");
             return ExitCode::FAILURE;
         }
     };
-    let mut comparison = Comparison::new(Random::new(seed));
+    let record = match arguments.next().map(Record::create).transpose() {
+        Ok(record) => record,
+        Err(error) => {
+            println!("the record cannot be written: {error}");
+            return ExitCode::FAILURE;
+        }
+    };
+    let mut comparison = Comparison::new(Random::new(seed), record);
     cases::folds(&mut comparison);
     cases::equalities(&mut comparison);
     cases::look_ups(&mut comparison);
     convert_cases::conversions(&mut comparison);
     score_cases::scores(&mut comparison);
-    report(&comparison)
+    let as_wanted = report(&comparison);
+    let recorded = comparison.record.take().is_none_or(|record| write_record(record, &comparison.coverage));
+    if as_wanted && recorded {
+        ExitCode::SUCCESS
+    } else {
+        ExitCode::FAILURE
+    }
 }
 
-fn report(comparison: &Comparison) -> ExitCode {
+/// Prints what was compared. Whether there was no difference, and every case that must occur did.
+fn report(comparison: &Comparison) -> bool {
     let coverage = &comparison.coverage;
-    for name in Call::NAMES.into_iter().chain([ConvertCall::NAME, ScoreCall::NAME]) {
+    for name in NAMES {
         let returned = coverage.returned(name);
         let compared: u64 = returned.iter().map(|(_, count)| count).sum();
         let parts = returned.iter().map(|(number, count)| match number {
@@ -69,9 +90,26 @@ fn report(comparison: &Comparison) -> ExitCode {
         println!("this case did not occur: {name}, {event} {detail}");
     }
     println!("{} differences", comparison.differences());
-    if comparison.differences() == 0 && missing.is_empty() {
-        ExitCode::SUCCESS
-    } else {
-        ExitCode::FAILURE
+    comparison.differences() == 0 && missing.is_empty()
+}
+
+/// Writes the record. Whether that is done, and each call is in it with every number that the reference returned.
+fn write_record(record: Record, coverage: &Coverage) -> bool {
+    let mut whole = true;
+    for (kind, name) in NAMES.into_iter().enumerate() {
+        for (number, _) in coverage.returned(name) {
+            if !record.has(kind, number as u64) {
+                println!("this was not recorded: {name}, returned {number}");
+                whole = false;
+            }
+        }
     }
+    match record.write() {
+        Ok(calls) => println!("{calls} calls recorded for the comparison from C"),
+        Err(error) => {
+            println!("the record cannot be written: {error}");
+            whole = false;
+        }
+    }
+    whole
 }

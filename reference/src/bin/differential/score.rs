@@ -49,11 +49,16 @@ impl ScoreCall {
 }
 
 impl FrameCall<5> for ScoreCall {
+    const KIND: usize = 4;
     const BUFFERS: [&'static str; 5] = ["first layout", "second layout", "first", "second", "answer"];
     const QUESTIONS: &'static [u64] = &[1, 3, 4, 5, 8, 9, 10, 11];
 
     fn buffers(&self) -> [&[u8]; 5] {
         [&self.layouts[0], &self.layouts[1], &self.frames[0], &self.frames[1], &self.answer]
+    }
+
+    fn numbers(&self) -> Vec<u64> {
+        vec![self.size, self.depth, self.format]
     }
 
     unsafe fn of_library(&self, pointers: [*mut u8; 5]) -> u64 {
