@@ -10,7 +10,8 @@
  * byte stays. No length of an answer buffer is a refusal. A pointer may be NULL where its length is 0.
  *
  * What the caller owes. No buffer that a call writes overlaps another one lent to it; a call without this is outside every
- * promise. A pointer that is not NULL points at as many bytes as its length says.
+ * promise. Buffers that a call only reads may overlap or be the same. A pointer that is not NULL points at as many bytes as its
+ * length says.
  *
  * Threads. Calls keep nothing and share nothing, so threads may call at the same time, each with buffers of its own.
  */
@@ -98,7 +99,7 @@ uint64_t welchodrys_convert(uint64_t source_size, uint64_t target_size, uint64_t
  *
  * Asks 1 of the size, 3 of the depth, 4 of the format, 5 of both layouts, 8 of the first frame's length, 9 of the second's, 10 of the
  * first frame's samples, then 11 of the second's. Writes two numbers, 16 bytes: the error sum, then the weight sum. Both frames and
- * both layouts stay; they may share memory with each other, since none of them is written.
+ * both layouts stay.
  */
 uint64_t welchodrys_score(uint64_t size, uint64_t depth, uint64_t format,
     const uint8_t *first_layout, size_t first_layout_length, const uint8_t *second_layout, size_t second_layout_length,
