@@ -5,20 +5,22 @@ ghost use lib.IntN.{natAbs};
 ghost use lib.ListN.{length, getD};
 ghost use Rattle.arithmetic.specs.Sums.{sumBelow, bothTerms};
 ghost use Rattle.cubemap.specs.declared.Format.{Format};
-ghost use Rattle.cubemap.specs.Frames.{sampleAtPlace};
 ghost use Rattle.cubemap.specs.PlaceToRay.{fromCentre};
 ghost use Rattle.cubemap.specs.Score.{weightOf, difference, squaredDifference, errorSum, weightSum};
 ghost use Rattle.cubemap.specs.Checks.{scoreSettings};
 ghost use Rattle.cubemap.specs.Outcomes.{scoredMeans, scoreResult};
-ghost use Rattle.cubemap.proofs.Passed.{ScorePassed};
 ghost use Rattle.cubemap.proofs.Weights.{lengthSquared};
 ghost use Rattle.indices.specs.Steps.{sampleBy};
+ghost use Rattle.view.specs.Views.{shown, frameOf};
+ghost use Rattle.scoring.specs.Comparing.{Comparable, sumsOf};
 ghost use Rattle.scoring.specs.Tests.{passing, TestOf, Bounds, IsMost};
 ghost use Rattle.scoring.specs.Rows.{Weighed, ScoredFace, ScoredPlane, faceError, facesError};
+use cubemap::Layout;
 use cubemap::Refusal;
 use cubemap::Scored;
 use cubemap::Shape;
 use indices::FaceSteps;
+use view::FrameView;
 
 // ---- the weight of a place
 
@@ -349,27 +351,57 @@ fn score_planes(
     }
 }
 
-// The two sums of two frames, where no question ended the call. A place has the weight of the one with column and row exchanged, so where a face lies
-// on its side in the first frame, both frames are walked along its columns: those are lines of the first frame.
-fn score_frames(
-    shape: Shape,
-    first_layout: &[u8],
-    second_layout: &[u8],
+// The two sums of two frames whose parts are apart. A place has the weight of the one with column and row exchanged, so where a face lies on its side in
+// the first frame, both frames are walked along its columns: those are lines of the first frame.
+fn sums_apart(
     first: &[u8],
+    shape: Shape,
+    first_layout: Layout,
     second: &[u8],
+    second_layout: Layout,
 ) -> Scored
-    requires { ⌜ ScorePassed (scoreSettings shape (now «first_layout») (now «second_layout»)) (now first) (now second) ⌝ }
-    ensures { λ r. ⌜ ((format : Format) → r ≡ Scored.Sums
-        (errorSum format (shape .size) (sampleAtPlace (now (first .entry)) (shape .size) (now («first_layout» .entry)))
-        (sampleAtPlace (now (second .entry)) (shape .size) (now («second_layout» .entry))))
-        (weightSum format (shape .size))) ⌝ }
+    requires { ⌜ Comparable (frameOf shape «first_layout» (now first)) (frameOf shape «second_layout» (now second)) ⌝ }
+    ensures { λ r. ⌜ ((format : Format) → r ≡ sumsOf format
+        (frameOf shape «first_layout» (now (first .entry))) (frameOf shape «second_layout» (now (second .entry)))) ⌝ }
 {
     let size = shape.size;
-    let first_table = indices::face_steps(size, frame::layout_of(first_layout));
-    let second_table = indices::face_steps(size, frame::layout_of(second_layout));
+    let first_table = indices::face_steps(size, first_layout);
+    let second_table = indices::face_steps(size, second_layout);
     let first_steps = indices::aligned_steps(&first_table, &first_table);
     let second_steps = indices::aligned_steps(&first_table, &second_table);
     score_planes(size, first, &first_steps, second, &second_steps)
+}
+
+// The two sums of two frames of one shape, each as one thing.
+fn sums_of<'a, 'b>(first: FrameView<'a>, second: FrameView<'b>) -> Scored
+    requires { ⌜ Comparable (shown first) (shown second) ⌝ }
+    ensures { λ r. ⌜ ((format : Format) → r ≡ sumsOf format (shown (first .entry)) (shown (second .entry))) ⌝ }
+{
+    sums_apart(
+        first.bytes,
+        first.shape,
+        first.layout,
+        second.bytes,
+        second.layout,
+    )
+}
+
+// The two sums of two frames of this shape, through views of them.
+fn sums(
+    first: &[u8],
+    shape: Shape,
+    first_layout: Layout,
+    second: &[u8],
+    second_layout: Layout,
+) -> Scored
+    requires { ⌜ Comparable (frameOf shape «first_layout» (now first)) (frameOf shape «second_layout» (now second)) ⌝ }
+    ensures { λ r. ⌜ ((format : Format) → r ≡ sumsOf format
+        (frameOf shape «first_layout» (now (first .entry))) (frameOf shape «second_layout» (now (second .entry)))) ⌝ }
+{
+    sums_of(
+        view::view(first, shape, first_layout),
+        view::view(second, shape, second_layout),
+    )
 }
 
 // Scores two frames.
@@ -409,5 +441,11 @@ pub fn score(
         let index = frame::lowest_beyond(shape, second) as u32;
         return Scored::Refused(Refusal::SecondSample(index));
     }
-    score_frames(shape, first_layout, second_layout, first, second)
+    sums(
+        first,
+        shape,
+        frame::layout_of(first_layout),
+        second,
+        frame::layout_of(second_layout),
+    )
 }

@@ -10,7 +10,6 @@ use Rattle.cubemap.specs.Checks.{layoutOK}
 use Rattle.cubemap.proofs.Framed.{length-is}
 use Rattle.cubemap.proofs.Layouts.{layout-holds}
 use Rattle.cubemap.proofs.Passed.{Between, size-range}
-use Rattle.view.specs.Views.{Readable}
 use Rattle.conformance.proofs.corner_sample.Statement.{statement}
 use Rattle.conformance.proofs.corner_sample.Tie as tie
 

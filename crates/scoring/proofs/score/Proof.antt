@@ -1,5 +1,5 @@
 -- `score` meets its contract: each exit is the first check that fails, and behind the last one are the sums.
-use mathlib.Core.Path.{_≡_, _∙_, ap}
+use mathlib.Core.Path.{_≡_, refl, sym, _∙_, ap, ap₂, subst₂}
 use mathlib.Core.List.{List}
 use Prim.Native.Nat.{ℕ, _≤_}
 use lib.Dec.{T}
@@ -8,12 +8,14 @@ use borrow.Author.Needs.{needs}
 use Rattle.arithmetic.proofs.Tests.{not-refused}
 use Rattle.cubemap.specs.declared.Refusal.{Refusal}
 use Rattle.cubemap.specs.Interface.{formatOf, accepted, answer}
-use Rattle.cubemap.specs.Frames.{bytesIn}
+use Rattle.cubemap.specs.Frames.{Frame, bytesIn}
 use Rattle.cubemap.specs.Checks.{ScoreSettings, scoreSettings, depthOK}
 use Rattle.cubemap.specs.Outcomes.{scoredMeans, refusal, refused, scoreResult}
 use Rattle.cubemap.proofs.Framed.{length-is}
-use Rattle.cubemap.proofs.Passed.{Remaining, next-holds, next-fails, none-fails, size-range}
+use Rattle.cubemap.proofs.Layouts.{layout-holds}
+use Rattle.cubemap.proofs.Passed.{ScorePassed, Remaining, next-holds, next-fails, none-fails, size-range}
 use Rattle.cubemap.proofs.Scores.{checksOfScore, scoreAnswer, score-remain, score-refused, score-accepted, score-answer-passed}
+use Rattle.scoring.specs.Comparing.{Comparable, sumsOf}
 use Rattle.scoring.proofs.score.Statement.{statement}
 use Rattle.scoring.proofs.score.Tie as tie
 
@@ -154,14 +156,22 @@ returns-8 c =
 answered : (c : tie.Else8) → accepted ≡ scoreAnswer (settings (start8 c)) (first (start8 c)) (second (start8 c))
 answered c = none-fails (held8 c)
 
+passed : (c : tie.Else8) → ScorePassed (settings (start8 c)) (first (start8 c)) (second (start8 c))
+passed c = score-answer-passed _ _ _ (answered c)
+
+-- a frame of the call's shape
+abbrev framed : tie.Start → List ℕ → List ℕ → Frame
+framed s L bytes = record { shape = s .args .shape; layout = L; bytes = bytes }
+
 returns-9 : tie.Need-returns-9
 returns-9 c =
-    let s : tie.Start = start8 (c .before) in
-    ap scoredMeans (c .score-frames .ensures (formatOf (s .args .shape .format)))
-    ∙ score-accepted (settings s) (first s) (second s) (answered (c .before))
-
-score-frames-requires : tie.Need-score-frames-requires
-score-frames-requires c κs = score-answer-passed _ _ _ (answered c)
+    let l : tie.After-layout-of2 = c .before in
+    let d : tie.Else8 = l .before .before in
+    let s : tie.Start = start8 d in
+    let format = formatOf (s .args .shape .format) in
+    ap scoredMeans (c .sums .ensures format
+    ∙ ap₂ (λ L M. sumsOf format (framed s L (first s)) (framed s M (second s))) (l .before .layout-of .ensures) (l .layout-of2 .ensures))
+    ∙ score-accepted (settings s) (first s) (second s) (answered d)
 
 -- ---- what is called
 
@@ -195,6 +205,19 @@ samples-ok-requires-2 c κs = second-readable (c .before .before)
 lowest-beyond-requires-2 : tie.Need-lowest-beyond-requires-2
 lowest-beyond-requires-2 c κs = second-readable (c .before .before .before .before)
 
+layout-of-requires : tie.Need-layout-of-requires
+layout-of-requires c κs = layout-holds _ (passed c .first-layout) .twelve-bytes
+
+layout-of-requires-2 : tie.Need-layout-of-requires-2
+layout-of-requires-2 c κs = layout-holds _ (passed (c .before) .second-layout) .twelve-bytes
+
+sums-requires : tie.Need-sums-requires
+sums-requires c κs =
+    let d : tie.Else8 = c .before .before in
+    let s : tie.Start = start8 d in
+    subst₂ (λ L M. Comparable (framed s L (first s)) (framed s M (second s))) (sym (c .before .layout-of .ensures)) (sym (c .layout-of2 .ensures))
+    (record { one-shape = refl; passed = passed d })
+
 cast-index : tie.Need-cast-index
 cast-index c = search needs
 
@@ -225,5 +248,7 @@ score-spec =
     lowest-beyond-requires-2
     cast-index-2
     returns-8
-    score-frames-requires
+    layout-of-requires
+    layout-of-requires-2
+    sums-requires
     returns-9)
