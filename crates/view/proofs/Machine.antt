@@ -1,12 +1,14 @@
--- What the walks of the functions over a view have in common: the view's type in a signature, the machine values of a frame's parts, and what is
--- required of a view and a place.
+-- What the walks of functions over a view have in common: the view's type in a signature and in a local, the machine values of a frame's parts, and
+-- what is required of a view and a place.
 use Prim.Native.Nat.{ℕ}
 use mathlib.Core.List.{List}
 use lib.ListN.{length}
+use mir.Syntax.{erased}
 use mir.Val.{Val}
+use base.Fml.{Lft}
 use contract.Lifetimes.{Lfts}
 use denote.RattleType.{RattleType}
-use denote.Ref.{RefT}
+use denote.Ref.{RefT, NamedLft}
 use denote.Signature.{namedLft}
 use denote.Slice.{sliceVal}
 use denote.Struct.Laws as LL
@@ -28,6 +30,10 @@ use Rattle.view.proofs.FrameView as F
 abbrev pub Viewed : Lfts 1 → RattleType
 Viewed κs = F.the-row (namedLft 1 0 tt κs)
 
+-- a local has no lifetime of its own
+abbrev pub localLft : Lft → NamedLft
+localLft κ = record { mir = erased; lft = κ }
+
 abbrev pub sliceValue : RefT (List ℕ) → Val
 sliceValue s = sliceVal (s .ptr) (length (s .now))
 
@@ -39,6 +45,10 @@ layoutValue l = LL.val L.the-type L′.the-laws l
 
 abbrev pub placeValue : Place → Val
 placeValue p = LL.val P.the-type P′.the-laws p
+
+-- the view of a slice, a shape and a layout
+abbrev pub viewed : RefT (List ℕ) → Shape → Layout → FrameView
+viewed s z l = record { bytes = s; shape = z; layout = l }
 
 -- what is required of a view and a place
 abbrev pub Within : FrameView → Place → Type 0
