@@ -9,7 +9,7 @@ use Rattle.cubemap.specs.declared.Place.{Place}
 use Rattle.cubemap.specs.Frames.{place}
 use Rattle.cubemap.specs.PlaceToRay.{fromCentre}
 
--- "the largest whole W with W²·(A²+p²+q²)³ ≤ 2^32·A^6", of the sizes of p and q. (No W above 65,536 has it.)
+-- "the largest whole W with W²·(A²+p²+q²)³ ≤ 2^32·A^6", of the sizes of p and q. (From A = 1 on, no W above 65,536 has it.)
 unfoldable pub weightOf : ℕ → ℕ → ℕ → ℕ
 weightOf A p q = largest (λ W. leb (W * W * (A * A + p * p + q * q) ^ 3) (2 ^ 32 * A ^ 6)) 65536
 

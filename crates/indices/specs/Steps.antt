@@ -15,7 +15,7 @@ use Rattle.indices.specs.declared.FaceSteps.{FaceSteps}
 abbrev pub stepped : FaceSteps → ℕ → ℕ → ℤ
 stepped s m n = s .base +ℤ pos m *ℤ s .across +ℤ pos n *ℤ s .down
 
--- for each column m and row n of a face of size A the steps give the index `at m n`
+-- for each column m and row n of a face of size A the steps give the index `at m n`; a frame has at most 6·512² samples, and a row of it 3·512
 pub record Steps (A : ℕ) (s : FaceSteps) (at : ℕ → ℕ → ℕ) : Type 0 where
   pub base-small : natAbs (s .base) ≤ 1572864
   pub across-small : natAbs (s .across) ≤ 1536

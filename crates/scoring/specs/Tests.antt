@@ -9,7 +9,7 @@ use Rattle.scoring.specs.declared.WeightTest.{WeightTest}
 abbrev pub passing : WeightTest → ℕ → Bool
 passing t W = leb (W * W * (t .high * 1073741824 + t .low)) (1073741824 * t .limit)
 
--- the test of a place with K = A² + p² + q²
+-- the test of a place with K = A² + p² + q², which is at most 3·512²: its third power is at most 27·2^54, and the high part of that 27·2^24
 pub record TestOf (limit K : ℕ) (t : WeightTest) : Type 0 where
   pub whole : t .high * 1073741824 + t .low ≡ K ^ 3
   pub goes-to : t .limit ≡ limit

@@ -1,4 +1,5 @@
--- Demand 3: "a single claim about the whole list, not one for each call".
+-- Demand 3: "a single claim about the whole list, not one for each call". Quotes here and in `Runs` are of the paper's section "Runs of whole-cube turns"
+-- and of the demand itself, which docs/PROMISES.md has word by word.
 use mathlib.Core.Path.{_≡_}
 use mathlib.Core.Bool.{Bool, _&&_, not}
 use mathlib.Core.List.{List, [], _∷_}
@@ -24,7 +25,7 @@ use Rattle.sequences.specs.Runs.{Converter, Keeping, Run, Each, lastFram
 pub record Answers (bytes : List ℕ) (c : ConvertCall) : Type 0 where
   -- "Each conversion must answer 0 where accepted, else the number and index of the question that ended it."
   pub returns : c .returned ≡ returnCode (answerTo (told c) bytes)
-  -- "a refused conversion .. changes nothing": its target stays, and what is only read stays in every call
+  -- "a refused conversion adds no turn and changes nothing": its target stays, and what is only read stays in every call
   pub target-stays : T (not (accepts (told c) bytes)) → c .targetAfter ≡ c .target
   pub source-stays : c .sourceAfter ≡ c .source
   pub source-layout-stays : c .sourceLayoutAfter ≡ c .settings .sourceLayout
