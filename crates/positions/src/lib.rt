@@ -85,7 +85,7 @@ fn acp_near(size: u64, x: i64, d: u64, inverse: f64) -> u64
     }
 }
 
-// T of x / d in ACP. The nested divisions are exact; where 576·A less would have the same quotient by 50·d, the first two are not needed.
+// T of x / d in ACP. The nested divisions are exact; where 576·A less than `near` has the same quotient by 50·d, the second of the three cannot matter and is not made.
 fn acp_position(size: u64, x: i64, d: u64, inverse: f64) -> i64
     requires { ⌜ (size ≤ 512) × (0 < d) × (d ≤ 536870911) × (natAbs x ≤ d) ⌝ }
     ensures { λ r. ⌜ r ≡ position64 Format.Acp size x d ⌝ }

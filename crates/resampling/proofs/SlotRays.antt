@@ -1,4 +1,4 @@
--- The rays of a run: those of the places at its indices, by a start and multiples of a step, and the same once rotated.
+-- The rays of a run: those of the places at its indices, by a start and multiples of a step.
 use mathlib.Core.Path.{_≡_, refl, sym, _∙_, ap, ap₂}
 use mathlib.Core.List.{[], _∷_}
 use Prim.Native.Nat.{ℕ, zero, suc, _+_, _*_, _-_, _/_, _%_, _≤_, _<_}

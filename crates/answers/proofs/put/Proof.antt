@@ -1,3 +1,4 @@
+-- `put` meets its contract: the eight bytes are stored where they fit whole, and else nothing is.
 use mathlib.Core.Path.{sym, _∙_}
 use Prim.Native.Nat.{_*_}
 use native.Mathlib.Omega.{arith}

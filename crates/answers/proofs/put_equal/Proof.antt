@@ -1,3 +1,4 @@
+-- `put_equal` meets its contract: 1 or 0, as the answer is.
 use mathlib.Core.Path.{sym, _∙_, ap}
 use mathlib.Core.Bool.{Bool}
 use mathlib.Core.List.{[]}

@@ -1,3 +1,4 @@
+-- `put_located` meets its contract: three numbers, one behind the other.
 use mathlib.Core.Path.{sym, _∙_}
 use mathlib.Core.List.{[], _∷_}
 use lib.IntN.{pos}

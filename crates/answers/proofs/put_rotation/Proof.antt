@@ -1,3 +1,4 @@
+-- `put_rotation` meets its contract: four numbers, one behind the other.
 use mathlib.Core.Path.{sym, _∙_}
 use mathlib.Core.List.{[], _∷_}
 use borrow.Author.Needs.{needs}

@@ -1,3 +1,4 @@
+-- `put_signed` meets its contract: the bits of a signed number are put, and stand for it.
 use mathlib.Core.Path.{_∙_, ap}
 use Prim.Native.Nat.{ℕ}
 use lib.IntN.{pos}

@@ -1,3 +1,4 @@
+-- `store` meets its contract: eight bytes written one by one are the number's, the low one first.
 use mathlib.Core.Path.{_≡_}
 use Prim.Native.Nat.{suc, _+_}
 use native.Mathlib.Omega.{arith}

@@ -1,3 +1,4 @@
+-- `twos_complement` meets its contract: 2^64 less the size of a negative number, and any other number itself.
 use mathlib.Core.Path.{_≡_, sym, _∙_}
 use mathlib.Core.Bool.{true}
 use Prim.Native.Nat.{_<_}

@@ -1,3 +1,4 @@
+-- `bent_at` meets its contract: c is at most N, so nothing goes below zero and nothing overflows.
 use native.Mathlib.Omega.{arith}
 use borrow.Author.Needs.{needs}
 use Rattle.cubemap.proofs.Curves.{bent-most}

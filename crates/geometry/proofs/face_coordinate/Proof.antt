@@ -1,3 +1,4 @@
+-- `face_coordinate` meets its contract: 2m + 1 − A itself in CMP, and in ACP the curve at its size, with its sign.
 use mathlib.Core.Path.{_≡_, sym, _∙_, ap, ap₂}
 use Prim.Native.Nat.{ℕ}
 use native.Mathlib.Omega.{arith}

@@ -1,3 +1,4 @@
+-- `format_of` meets its contract: code 0, and every other code.
 use mathlib.Core.Path.{_≡_, refl}
 use Prim.Native.Nat.{ℕ, zero, suc}
 use borrow.Author.Needs.{needs}

@@ -1,3 +1,4 @@
+-- `from_centre` meets its contract: both numbers are small, so their difference is exact.
 use Prim.Native.Nat.{_+_, _*_}
 use native.Mathlib.Omega.{arith}
 use lib.IntN.{pos}

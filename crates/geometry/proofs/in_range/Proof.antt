@@ -1,3 +1,4 @@
+-- `in_range` meets its contract: each of the three numbers is asked.
 use mathlib.Core.Path.{sym, _∙_}
 use mathlib.Core.Bool.{_&&_}
 use borrow.Author.Needs.{needs}

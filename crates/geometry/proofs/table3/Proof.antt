@@ -1,3 +1,4 @@
+-- `table3` meets its contract: the six rows of the table, one by one.
 use mathlib.Core.Path.{_≡_, sym, _∙_, ap}
 use Prim.Native.Nat.{ℕ}
 use lib.IntN.{ℤ}

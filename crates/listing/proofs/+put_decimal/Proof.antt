@@ -1,3 +1,4 @@
+-- `put_decimal` meets its contract: by recursion, and n / 10 is below n.
 use mathlib.Core.Path.{sym}
 use mathlib.Core.List.{[], _∷_, _++_}
 use Prim.Native.Nat.{ℕ, _+_, _/_, _%_, _≤_, _<_}

@@ -1,3 +1,4 @@
+-- `four_bytes` meets its contract: the two low bytes, and 2^16 times the two high ones.
 use mathlib.Core.Path.{sym, _∙_, ap₂}
 use Prim.Native.Nat.{_+_, _*_}
 use native.Mathlib.Omega.{arith}

@@ -1,3 +1,4 @@
+-- `is_ray_record` meets its contract: kind and length, as they are read.
 use mathlib.Core.Path.{sym, _∙_, ap₂}
 use mathlib.Core.Bool.{_&&_}
 use lib.Dec.{eqb}

@@ -1,3 +1,4 @@
+-- `is_whole` meets its contract: without six bytes there is no length to read; with them it decides.
 use mathlib.Core.Path.{sym, _∙_, ap}
 use Prim.Native.Nat.{_+_}
 use lib.Dec.{leb}

@@ -1,3 +1,4 @@
+-- `length_of` meets its contract: a whole record's six leading bytes and its body, or all that is left.
 use mathlib.Core.Path.{sym, _∙_, ap}
 use Prim.Native.Nat.{_+_}
 use native.Mathlib.Omega.{arith}

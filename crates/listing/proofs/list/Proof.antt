@@ -1,3 +1,4 @@
+-- `list` meets its contract: the header and then the lines of what counts, for which the buffer has room.
 use mathlib.Core.Path.{_≡_, refl, sym, _∙_, ap}
 use mathlib.Core.List.{List, _++_}
 use Prim.Native.Nat.{ℕ, _+_, _≤_}

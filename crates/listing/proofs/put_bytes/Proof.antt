@@ -1,3 +1,4 @@
+-- `put_bytes` meets its contract: after i steps the first i bytes are stored.
 use Prim.Native.Nat.{_+_, _-_, _≤_}
 use lib.ListN.{length, take}
 use native.Mathlib.Omega.{arith}
@@ -13,47 +14,37 @@ Inv-loop text₀ at more i₀ text i = (i ≤ length more) × Put text₀ at (ta
 abbrev μ-loop : tie.MeasureT-loop
 μ-loop text₀ at more i₀ text i = length more - i
 
--- src/lib.rt:128:5
 loop-holds : tie.Need-loop-holds Inv-loop μ-loop
 loop-holds c = search needs
 
--- src/lib.rt:129:24
 shared-slice-read-text : tie.Need-shared-slice-read-text Inv-loop μ-loop
 shared-slice-read-text c = search needs
 
--- src/lib.rt:129:14
 add-text : tie.Need-add-text Inv-loop μ-loop
 add-text c = search needs
 
--- src/lib.rt:129:9
 slice-write-text : tie.Need-slice-write-text Inv-loop μ-loop
 slice-write-text c =
     let l = c .before .before in
     omega (arith, put-length (take (l .loop .i) (l .before .args .more .now)) (l .loop .inv .1))
 
--- src/lib.rt:130:9
 add-i : tie.Need-add-i Inv-loop μ-loop
 add-i c = search needs
 
--- src/lib.rt:128:5
 loop-less : tie.Need-loop-less Inv-loop μ-loop
 loop-less c = search needs
 
--- src/lib.rt:128:5
 loop-again : tie.Need-loop-again Inv-loop μ-loop
 loop-again c =
     let l = c .before .before in
     (omega arith, put-next (l .before .args .more .now) (l .loop .i) (c .before .loop-test .taken) (l .loop .inv .1))
 
--- src/lib.rt:132:5
 add-result : tie.Need-add-result Inv-loop μ-loop
 add-result c = search needs
 
--- src/lib.rt:123:1
 same-length : tie.Need-same-length Inv-loop μ-loop
 same-length c = put-length (take (c .before .loop .i) (c .before .before .args .more .now)) (c .before .loop .inv .1)
 
--- src/lib.rt:123:1
 returns : tie.Need-returns Inv-loop μ-loop
 returns c = put-all (c .before .before .args .more .now) (c .before .loop .i) (c .loop-test .left) (c .before .loop .inv .1)
 

@@ -1,3 +1,4 @@
+-- `put_line` meets its contract: the record's number, and then what was found.
 use mathlib.Core.Path.{_≡_, sym, _∙_, ap}
 use mathlib.Core.List.{_++_}
 use lib.IntN.{pos}

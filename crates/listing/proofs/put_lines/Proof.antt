@@ -1,3 +1,4 @@
+-- `put_lines` meets its contract: after each record its line stands behind those before it, and the lines of the rest are left.
 use mathlib.Core.Path.{_≡_, sym, _∙_, ap}
 use mathlib.Core.List.{List}
 use Prim.Native.Nat.{ℕ, _+_, _-_, _≤_, _<_}

@@ -1,3 +1,4 @@
+-- `put_located` meets its contract: face, column and row, each behind a space, and the line's end.
 use mathlib.Core.Path.{sym}
 use mathlib.Core.List.{List, _++_}
 use Prim.Native.Nat.{ℕ, _+_, _≤_}

@@ -1,3 +1,4 @@
+-- `put_refused` meets its contract: the word, the number behind a space, and the line's end.
 use mathlib.Core.Path.{_≡_, sym, _∙_, ap}
 use mathlib.Core.List.{List, _++_}
 use Prim.Native.Nat.{ℕ, _+_, _≤_}

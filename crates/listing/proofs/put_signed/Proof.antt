@@ -1,3 +1,4 @@
+-- `put_signed` meets its contract: the digits of the number's size, behind a '-' where it is negative.
 use mathlib.Core.Path.{_≡_, sym, _∙_, ap}
 use mathlib.Core.List.{List, [], _∷_, _++_}
 use Prim.Native.Nat.{ℕ}

@@ -1,3 +1,4 @@
+-- `put_spaced` meets its contract: a space, and the number behind it.
 use mathlib.Core.List.{[], _∷_}
 use lib.IntN.{pos}
 use Rattle.cubemap.specs.Listing.{decimal}

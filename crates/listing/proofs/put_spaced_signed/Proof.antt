@@ -1,3 +1,4 @@
+-- `put_spaced_signed` meets its contract: a space, and the number behind it.
 use mathlib.Core.List.{[], _∷_}
 use Rattle.cubemap.specs.Listing.{decimal}
 use Rattle.listing.proofs.Texts.{put-then, put-read, room-then, room-read}

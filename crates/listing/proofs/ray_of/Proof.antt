@@ -1,3 +1,4 @@
+-- `ray_of` meets its contract: the three numbers, each read at its place.
 use mathlib.Core.Path.{_≡_, _∙_, ap}
 use Prim.Native.Nat.{ℕ}
 use lib.IntN.{ℤ}

@@ -1,3 +1,4 @@
+-- `result_of` meets its contract: the first question that refuses the record decides, and else the look-up does.
 use mathlib.Core.Path.{sym, _∙_}
 use Prim.Native.Nat.{_≤_}
 use native.Mathlib.Nat.{add-zero}

@@ -1,3 +1,4 @@
+-- `signed` meets its contract: 2^32 is taken off from 2^31 on.
 use mathlib.Core.Path.{sym, _∙_}
 use native.Mathlib.Omega.{arith}
 use lib.IntN.{pos}

@@ -1,3 +1,4 @@
+-- `position` meets its contract: format by format.
 use mathlib.Core.Path.{_≡_, sym, _∙_, ap₂}
 use lib.IntN.{ℤ}
 use mir.Syntax.{w64}

@@ -1,3 +1,4 @@
+-- `compose` meets its contract: the product, which is small enough to be reduced, and its reduction.
 use mathlib.Core.Path.{sym, _∙_, ap, subst}
 use borrow.Author.Needs.{needs}
 use Rattle.cubemap.specs.declared.Rotation.{Rotation}

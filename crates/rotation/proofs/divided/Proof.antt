@@ -1,3 +1,4 @@
+-- `divided` meets its contract: each of the four numbers by the common divisor, which is not 0.
 use mathlib.Core.Path.{_≡_, sym, _∙_, ap, subst}
 use Prim.Native.Nat.{ℕ, _≤_, _<_, _^_}
 use native.Mathlib.Omega.{arith}

@@ -1,3 +1,4 @@
+-- `divided_by` meets its contract: the size is divided, and the sign stays.
 use mathlib.Core.Path.{_≡_, sym, _∙_, ap, ap₂, subst}
 use Prim.Native.Nat.{_/_, _^_, _<_}
 use native.Mathlib.Nat.{div-le-self, lt-of-le-of-lt}

@@ -1,3 +1,4 @@
+-- `dot` meets its contract: three products of bounded numbers, whose sum stays inside 64 bits.
 use Rattle.arithmetic.proofs.Held.{mul, add, mul-ok, add-ok}
 use Rattle.cubemap.proofs.Ranges.{ray-range}
 use Rattle.cubemap.proofs.HeldNumbers.{HeldRay, held-ray}

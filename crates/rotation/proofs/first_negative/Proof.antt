@@ -1,3 +1,4 @@
+-- `first_negative` meets its contract: the numbers from the last to the first, each in front of those behind it.
 use mathlib.Core.Path.{_≡_, refl, _∙_, ap₂}
 use mathlib.Core.Bool.{Bool}
 use lib.IntN.{ℤ}

@@ -1,3 +1,4 @@
+-- `in_range` meets its contract: each of the four numbers is asked.
 use mathlib.Core.Path.{sym, _∙_}
 use mathlib.Core.Bool.{_&&_}
 use borrow.Author.Needs.{needs}

@@ -1,3 +1,4 @@
+-- `lead_negative` meets its contract: the number itself decides, and where it is 0, those behind it do.
 use mathlib.Core.Path.{sym, _∙_, ap₂}
 use mathlib.Core.Bool.{_&&_, _||_}
 use lib.IntN.{pos}

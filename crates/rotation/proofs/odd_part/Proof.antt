@@ -1,3 +1,4 @@
+-- `odd_part` meets its contract: a shift by the trailing zeros divides by all factors of two, and by nothing else.
 use native.Mathlib.Omega.{arith}
 use native.Mathlib.Nat.{div-le-self}
 use Prim.Native.Nat.{_^_}

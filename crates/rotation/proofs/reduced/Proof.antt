@@ -1,3 +1,4 @@
+-- `reduced` meets its contract: divided, and then the sign.
 use mathlib.Core.Path.{sym, _∙_, ap, subst}
 use borrow.Author.Needs.{needs}
 use Rattle.cubemap.specs.Rotations.{signNormalized}

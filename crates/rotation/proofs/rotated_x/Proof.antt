@@ -1,3 +1,4 @@
+-- `rotated_x` meets its contract: the first row of the matrix, applied to the ray.
 use mathlib.Core.Path.{sym, _∙_, ap}
 use borrow.Author.Needs.{needs}
 use mir.Facts.{toZ-ofZ}

@@ -1,3 +1,4 @@
+-- `same_numbers` meets its contract: the four numbers are compared one by one.
 use mathlib.Core.Bool.{_&&_}
 use borrow.Author.Needs.{needs}
 use Rattle.arithmetic.proofs.Held.{bits-equal}

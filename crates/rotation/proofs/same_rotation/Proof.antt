@@ -1,3 +1,4 @@
+-- `same_rotation` meets its contract: the numbers of both, once reduced, are compared.
 use mathlib.Core.Path.{sym, _∙_, ap₂}
 use native.Mathlib.Omega.{arith}
 use lib.Dec.{T}

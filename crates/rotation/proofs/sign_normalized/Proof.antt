@@ -1,3 +1,4 @@
+-- `sign_normalized` meets its contract: all four numbers change sign, or none does.
 use mathlib.Core.Path.{_≡_, sym, _∙_}
 use Prim.Native.Nat.{_≤_}
 use lib.IntN.{ℤ, pos, negℤ, natAbs, _-ℤ_}

@@ -1,3 +1,4 @@
+-- `welchodrys_look_up` meets its promise: the result is that of `look_up`, and a refusal writes nothing.
 use mathlib.Core.Path.{_≡_, refl, sym, _∙_, ap}
 use borrow.Author.Needs.{needs}
 use mir.Facts.{toZ-ofZ}
