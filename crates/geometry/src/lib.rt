@@ -5,7 +5,6 @@ ghost use lib.Dec.{T};
 ghost use lib.ListN.{getD};
 ghost use lib.IntN.{pos, natAbs};
 ghost use Rattle.cubemap.specs.Interface.{formatOf};
-ghost use Rattle.cubemap.specs.Frames.{IsPlace};
 ghost use Rattle.cubemap.specs.PlaceToRay as paper;
 ghost use Rattle.cubemap.specs.RayToPlace.{faceOf, chosenSize, across, down};
 ghost use Rattle.cubemap.specs.RayToPlace as toPlace;
@@ -15,7 +14,6 @@ ghost use Rattle.cubemap.proofs.Curves.{bent};
 use cubemap::Format;
 use cubemap::Located;
 use cubemap::LookedUp;
-use cubemap::Place;
 use cubemap::Ray;
 use cubemap::Refusal;
 
@@ -135,17 +133,6 @@ pub fn table3(face: u64, s: i64, a: i64, b: i64) -> Ray
             z: 0 - s,
         },
     }
-}
-
-// The ray of a place.
-pub fn ray_of(format: Format, size: u64, place: Place) -> Ray
-    requires { ⌜ (size ≤ 512) × IsPlace size place ⌝ }
-    ensures { λ r. ⌜ r ≡ paper.rayOf format size place ⌝ }
-{
-    let s = scale(format, size);
-    let a = face_coordinate(format, size, place.column);
-    let b = face_coordinate(format, size, place.row);
-    table3(place.face, s as i64, a, b)
 }
 
 // ---- from ray to place

@@ -1,12 +1,12 @@
-// Where places stand in a frame: the index of a place, by steps, and the place at an index.
+// Where places stand in a frame: the index of a place, by steps.
 ghost use mathlib.Core.Path.{_≡_};
-ghost use Prim.Native.Nat.{_+_, _*_, _-_, _≤_, _<_};
+ghost use Prim.Native.Nat.{_≤_, _<_};
 ghost use lib.Dec.{T};
 ghost use lib.IntN.{natAbs};
 ghost use lib.Signed.{nonNeg};
 ghost use Rattle.arithmetic.specs.Integers.{natural};
 ghost use Rattle.cubemap.specs.Frames.{place, IsPlace, planeSamples};
-ghost use Rattle.cubemap.specs.Frames.{layoutBytes, spot, quarterTurns, indexInSlot, placeAt};
+ghost use Rattle.cubemap.specs.Frames.{layoutBytes, spot, quarterTurns, indexInSlot};
 ghost use Rattle.cubemap.specs.Frames as paper;
 ghost use Rattle.cubemap.specs.Checks.{layoutOK};
 ghost use Rattle.indices.specs.Steps as by;
@@ -184,54 +184,4 @@ pub fn index(size: u64, layout: Layout, place: Place) -> u64
     ensures { λ r. ⌜ (r ≡ paper.index size (layoutBytes layout) place) × (r < planeSamples size) ⌝ }
 {
     step_to(steps_of(size, layout, place.face), place.column, place.row)
-}
-
-// ---- the place at an index
-
-// The place at a column and a row of a slot that holds this face, turned this many times.
-fn turned_back(size: u64, face: u64, turns: u64, column: u64, row: u64) -> Place
-    requires { ⌜ (turns < 4) × (column < size) × (row < size) ⌝ }
-    ensures { λ r. ⌜ (r .face ≡ face) × (spot (r .column) (r .row) ≡ quarterTurns size (4 - turns) (spot column row)) ⌝ }
-{
-    let last = size - 1;
-    match turns {
-        0 => Place {
-            face: face,
-            column: column,
-            row: row,
-        },
-        1 => Place {
-            face: face,
-            column: row,
-            row: last - column,
-        },
-        2 => Place {
-            face: face,
-            column: last - column,
-            row: last - row,
-        },
-        _ => Place {
-            face: face,
-            column: last - row,
-            row: column,
-        },
-    }
-}
-
-// The place at an index.
-pub fn place_at(size: u64, layout: Layout, index: u64) -> Place
-    requires { ⌜ (size ≤ 512) × T (layoutOK (layoutBytes layout)) × (index < planeSamples size) ⌝ }
-    ensures { λ r. ⌜ (r ≡ placeAt size (layoutBytes layout) index) × IsPlace size r ⌝ }
-{
-    let width = 3 * size;
-    let line = index / width;
-    let along = index % width;
-    let slot = line / size * 3 + along / size;
-    turned_back(
-        size,
-        frame::face_in(layout, slot),
-        frame::turns_in(layout, slot),
-        along % size,
-        line % size,
-    )
 }
