@@ -38,7 +38,7 @@ pub fn code_ok(code: u64) -> bool
 // ---- samples
 
 // A byte as a number, with its bound.
-fn wide(x: u8) -> u64
+pub fn wide(x: u8) -> u64
     ensures { λ r. ⌜ (r ≡ x) × (r < 256) ⌝ }
 {
     x as u64

@@ -23,18 +23,12 @@ pub const LIMIT: usize = 65536;
 
 // ---- records: each function takes the input from a record's first byte on
 
-fn wide(b: u8) -> u64
-    ensures { λ r. ⌜ (r ≡ b) × (r < 256) ⌝ }
-{
-    b as u64
-}
-
 // The number in the two bytes from index i on, little-endian.
 fn two_bytes(bytes: &[u8], i: usize) -> u64
     requires { ⌜ i + 2 ≤ length (now bytes) ⌝ }
     ensures { λ r. ⌜ (r ≡ paper.readFrom (now (bytes .entry)) i 2) × (r < 2 ^ 16) ⌝ }
 {
-    wide(bytes[i]) + 256 * wide(bytes[i + 1])
+    frame::wide(bytes[i]) + 256 * frame::wide(bytes[i + 1])
 }
 
 fn four_bytes(bytes: &[u8], i: usize) -> u64
@@ -97,7 +91,7 @@ fn result_of(bytes: &[u8], whole: bool) -> LookedUp
     if !is_ray_record(bytes) {
         return LookedUp::Refused(Refusal::RecordKind);
     }
-    geometry::look_up(two_bytes(bytes, 7), wide(bytes[6]), ray_of(bytes))
+    geometry::look_up(two_bytes(bytes, 7), frame::wide(bytes[6]), ray_of(bytes))
 }
 
 // How many bytes to pass over: the record, or all that is left where it is not whole.
