@@ -33,6 +33,18 @@ placed-none bytes from g =
     ∙ ap (λ x. x ++ drop (2 * from) bytes) (append-nil (take (2 * from) bytes))
     ∙ take-append-drop (2 * from) bytes
 
+-- n samples of at most so many are placed
+pub record Placed (from : ℕ) (g : ℕ → ℕ) (before now : List ℕ) (most n : ℕ) : Type 0 where
+  pub bounded : n ≤ most
+  pub holds : now ≡ placed before from g n
+
+pub kept : {from most n : ℕ} {g : ℕ → ℕ} {before now : List ℕ} → Placed from g before now most n → 2 * (from + most) ≤ length before
+    → length now ≡ length before
+kept {from} {most} {n} {g} {before} p h = ap length (p .holds) ∙ placed-length before from g n (let b = p .bounded in omega arith)
+
+pub none-placed : (bytes : List ℕ) (from most : ℕ) (g : ℕ → ℕ) → Placed from g bytes bytes most 0
+none-placed bytes from most g = record { bounded = omega arith; holds = sym (placed-none bytes from g) }
+
 -- one more
 pub placed-next : (bytes : List ℕ) (from : ℕ) (g : ℕ → ℕ) (n : ℕ) → 2 * (from + n) + 1 < length bytes
     → sets (placed bytes from g n) (2 * (from + n)) (littleEndian 2 (g n)) ≡ placed bytes from g (n + 1)

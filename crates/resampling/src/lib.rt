@@ -84,41 +84,48 @@ fn run_step(t: Rotation, face: u64, turns: u64) -> Ray
 // ---- samples
 
 // The sampler's value where a ray meets the source.
-fn value_on(c: Conversion, source: &[u8], steps: &[i64; 18], weights: &[i64; 256], v: Ray) -> u64
-    requires { ⌜ SourceReady c (now source) (now steps) (now weights) × T (rayInRange v) × T (rayNonzero v) ⌝ }
-    ensures { λ r. ⌜ (r ≡ valueOn c (now (source .entry)) (now (steps .entry)) v) × (r < 65536) ⌝ }
+fn value_on(
+    c: Conversion,
+    source: &[u8],
+    source_steps: &[i64; 18],
+    weights: &[i64; 256],
+    v: Ray,
+) -> u64
+    requires { ⌜ SourceReady c (now source) (now «source_steps») (now weights) × T (rayInRange v) × T (rayNonzero v) ⌝ }
+    ensures { λ r. ⌜ (r ≡ valueOn c (now (source .entry)) (now («source_steps» .entry)) v) × (r < 65536) ⌝ }
 {
     let cube = c.source;
     let size = cube.size;
     let format = cube.format;
     let sampler = c.sampler;
     let p = geometry::locate(format, size, v);
-    sampling::sample_from(sampler, source, size, steps, weights, c.depth, p)
+    sampling::sample_from(sampler, source, size, source_steps, weights, c.depth, p)
 }
 
 // The samples along a run, from index `from` on: as many as a face has columns.
 fn convert_along(
     c: Conversion,
     source: &[u8],
-    steps: &[i64; 18],
+    source_steps: &[i64; 18],
     weights: &[i64; 256],
     coordinates: &[i64; 512],
     start: Ray,
-    step: Ray,
+    ray_step: Ray,
     from: u64,
     target: &mut [u8],
 )
-    requires { ⌜ SourceReady c (now source) (now steps) (now weights) × Runs (c .target .size) (now coordinates) start step ⌝ }
+    requires { ⌜ SourceReady c (now source) (now «source_steps») (now weights) × Runs (c .target .size) (now coordinates) start «ray_step» ⌝ }
     requires { ⌜ (c .target .size ≤ 512) × (from ≤ 1572864) × (2 * (from + c .target .size) ≤ length (now target)) ⌝ }
     ensures { λ _. ⌜ now (target .exit) ≡ placed (now (target .entry)) from
-        (λ j. valueOn c (now (source .entry)) (now (steps .entry)) (along start (getD (now (coordinates .entry)) j (pos 0)) step)) (c .target .size) ⌝ }
+        (λ j. valueOn c (now (source .entry)) (now («source_steps» .entry)) (along start (getD (now (coordinates .entry)) j (pos 0)) «ray_step»))
+        (c .target .size) ⌝ }
 {
     let cube = c.target;
     let size = cube.size;
     let mut column: u64 = 0;
     while column < size {
-        let v = ray_along(start, step, coordinates[column as usize]);
-        let value = value_on(c, source, steps, weights, v);
+        let v = ray_along(start, ray_step, coordinates[column as usize]);
+        let value = value_on(c, source, source_steps, weights, v);
         frame::put_sample(target, (from + column) as usize, value);
         column += 1;
     }
@@ -128,17 +135,17 @@ fn convert_along(
 fn convert_run(
     c: Conversion,
     source: &[u8],
-    steps: &[i64; 18],
+    source_steps: &[i64; 18],
     weights: &[i64; 256],
     coordinates: &[i64; 512],
     layout: Layout,
     run: u64,
     target: &mut [u8],
 )
-    requires { ⌜ SourceReady c (now source) (now steps) (now weights) × TargetReady c (now coordinates) (layoutBytes layout) ⌝ }
+    requires { ⌜ SourceReady c (now source) (now «source_steps») (now weights) × TargetReady c (now coordinates) (layoutBytes layout) ⌝ }
     requires { ⌜ (run < 6 * c .target .size) × (length (now target) ≡ 2 * planeSamples (c .target .size)) ⌝ }
     ensures { λ _. ⌜ now (target .exit) ≡ placed (now (target .entry)) (run * c .target .size)
-        (λ j. valueAtIndex c (layoutBytes layout) (now (source .entry)) (now (steps .entry)) (run * c .target .size + j)) (c .target .size) ⌝ }
+        (λ j. valueAtIndex c (layoutBytes layout) (now (source .entry)) (now («source_steps» .entry)) (run * c .target .size + j)) (c .target .size) ⌝ }
 {
     let cube = c.target;
     let size = cube.size;
@@ -148,15 +155,15 @@ fn convert_run(
     let turns = frame::turns_in(layout, slot);
     let v = coordinates[(line % size) as usize];
     let start = run_start(c.rotation, cube, face, turns, v);
-    let step = run_step(c.rotation, face, turns);
+    let ray_step = run_step(c.rotation, face, turns);
     convert_along(
         c,
         source,
-        steps,
+        source_steps,
         weights,
         coordinates,
         start,
-        step,
+        ray_step,
         run * size,
         target,
     );
@@ -166,22 +173,31 @@ fn convert_run(
 pub fn convert_plane(
     c: Conversion,
     source: &[u8],
-    steps: &[i64; 18],
+    source_steps: &[i64; 18],
     weights: &[i64; 256],
     coordinates: &[i64; 512],
     layout: Layout,
     target: &mut [u8],
 )
-    requires { ⌜ SourceReady c (now source) (now steps) (now weights) × TargetReady c (now coordinates) (layoutBytes layout) ⌝ }
+    requires { ⌜ SourceReady c (now source) (now «source_steps») (now weights) × TargetReady c (now coordinates) (layoutBytes layout) ⌝ }
     requires { ⌜ length (now target) ≡ 2 * planeSamples (c .target .size) ⌝ }
     ensures { λ _. ⌜ now (target .exit)
-        ≡ framed (valueAtIndex c (layoutBytes layout) (now (source .entry)) (now (steps .entry))) (planeSamples (c .target .size)) ⌝ }
+        ≡ framed (valueAtIndex c (layoutBytes layout) (now (source .entry)) (now («source_steps» .entry))) (planeSamples (c .target .size)) ⌝ }
 {
     let cube = c.target;
     let runs = 6 * cube.size;
     let mut run: u64 = 0;
     while run < runs {
-        convert_run(c, source, steps, weights, coordinates, layout, run, target);
+        convert_run(
+            c,
+            source,
+            source_steps,
+            weights,
+            coordinates,
+            layout,
+            run,
+            target,
+        );
         run += 1;
     }
 }

@@ -1,10 +1,10 @@
 -- `convert_along` meets its contract: after each column the samples up to it are placed, and every other byte is as it was.
 use mathlib.Core.Path.{_≡_, sym, _∙_, ap, ap₂, subst}
 use mathlib.Core.List.{List}
-use Prim.Native.Nat.{ℕ, _+_, _*_, _-_, _≤_, _<_}
+use Prim.Native.Nat.{ℕ, _+_, _*_, _-_, _<_}
 use native.Mathlib.Omega.{arith}
 use lib.IntN.{ℤ, pos}
-use lib.ListN.{length, getD}
+use lib.ListN.{getD}
 use lib.Seq.{sets}
 use mir.Syntax.{w64}
 use mir.Val.{toZ, ofZ}
@@ -15,26 +15,16 @@ use Rattle.cubemap.specs.Interface.{littleEndian}
 use Rattle.cubemap.proofs.RotatedRays.{RotatedRay}
 use Rattle.cubemap.proofs.Rotations.{along}
 use Rattle.resampling.specs.Plane.{valueOn, placed, Runs}
-use Rattle.resampling.proofs.Placing.{placed-length, placed-none, placed-next}
+use Rattle.resampling.proofs.Placing.{Placed, kept, none-placed, placed-next}
 use Rattle.resampling.proofs.convert_along.Statement.{statement}
 use Rattle.resampling.proofs.convert_along.Tie as tie
 
--- the samples of the columns below `column` are placed
-record Placed (size from : ℕ) (g : ℕ → ℕ) (before now : List ℕ) (column : ℕ) : Type 0 where
-  bounded : column ≤ size
-  holds : now ≡ placed before from g column
-
-kept : {size from column : ℕ} {g : ℕ → ℕ} {before now : List ℕ} → Placed size from g before now column → 2 * (from + size) ≤ length before
-    → length now ≡ length before
-kept {size} {from} {column} {g} {before} p h =
-    ap length (p .holds) ∙ placed-length before from g column (let b = p .bounded in omega arith)
-
 abbrev Inv-loop : tie.InvT-loop
-Inv-loop c source steps weights coordinates start step from target₀ size column₀ target column =
-    Placed size from (λ j. valueOn c source steps (along start (getD coordinates j (pos 0)) step)) target₀ target column
+Inv-loop c source source-steps weights coordinates start ray-step from target₀ size column₀ target column =
+    Placed from (λ j. valueOn c source source-steps (along start (getD coordinates j (pos 0)) ray-step)) target₀ target size column
 
 abbrev μ-loop : tie.MeasureT-loop
-μ-loop c source steps weights coordinates start step from target₀ size column₀ target column = size - column
+μ-loop c source source-steps weights coordinates start ray-step from target₀ size column₀ target column = size - column
 
 -- the rays of a run at the coordinate of a column, as it is read
 module _ {A : ℕ} {coordinates : List ℤ} {start step : Ray} (runs : Runs A coordinates start step) (m : ℕ) (h : m < A) where
@@ -53,7 +43,7 @@ returns c =
     let a = l .before .before .before .before .args in
     l .loop .inv .holds
     ∙ ap (placed (a .target .now) (a .from)
-    (λ j. valueOn (a .c) (a .source .now) (a .steps .now) (along (a .start) (getD (a .coordinates .now) j (pos 0)) (a .step))))
+    (λ j. valueOn (a .c) (a .source .now) (a .source-steps .now) (along (a .start) (getD (a .coordinates .now) j (pos 0)) (a .ray-step))))
     (omega (arith, l .loop .inv .bounded))
 
 loop-again : tie.Need-loop-again Inv-loop μ-loop
@@ -65,15 +55,13 @@ loop-again c =
       bounded = omega arith;
       holds = c .before .before .put-sample .ensures
           ∙ ap₂ (λ bytes x. sets bytes (2 * (s .args .from + l .loop .column)) (littleEndian 2 x)) (l .loop .inv .holds)
-          (v .value-on .ensures .0 ∙ ap (valueOn (s .args .c) (s .args .source .now) (s .args .steps .now))
+          (v .value-on .ensures .0 ∙ ap (valueOn (s .args .c) (s .args .source .now) (s .args .source-steps .now))
           (ray-is (s .pre .0 .1) (l .loop .column) (omega arith) (v .before .ray-along .ensures)))
           ∙ placed-next (s .args .target .now) (s .args .from) _ (l .loop .column) (omega arith);
     }
 
 loop-holds : tie.Need-loop-holds Inv-loop μ-loop
-loop-holds c =
-    let a = c .before .before .before .args in
-    record { bounded = omega arith; holds = sym (placed-none (a .target .now) (a .from) _) }
+loop-holds c = none-placed _ _ _ _
 
 mul-ray-along : tie.Need-mul-ray-along Inv-loop μ-loop
 mul-ray-along c = search needs

@@ -97,7 +97,7 @@ returns c =
     let a = s d .args in
     c .before .before .convert-along .ensures
     ∙ placed-cong (a .target .now) (a .run * a .c .target .size) _ _ (a .c .target .size)
-    (λ j p. ap (valueOn (a .c) (a .source .now) (a .steps .now)) (ray-is d j p))
+    (λ j p. ap (valueOn (a .c) (a .source .now) (a .source-steps .now)) (ray-is d j p))
 
 div-slot : tie.Need-div-slot
 div-slot c = search needs

@@ -12,7 +12,7 @@ returns c =
     let l : tie.After-locate = c .before in
     let a = l .before .before .before .args in (
       c .sample-from .ensures .0
-          ∙ ap (sampleFrom (a .c .sampler) (a .c .source .size) (a .c .depth) (sampleBy (a .source .now) (a .steps .now))) (l .locate .ensures),
+          ∙ ap (sampleFrom (a .c .sampler) (a .c .source .size) (a .c .depth) (sampleBy (a .source .now) (a .source-steps .now))) (l .locate .ensures),
       c .sample-from .ensures .1,
     )
 
