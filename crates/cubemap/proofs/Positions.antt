@@ -212,7 +212,7 @@ module _ (A k d : ℕ) (h : k ≤ d) (p : 0 < d) where
   part-small : A * part ≤ A * d
   part-small = mul-le-mul-left A (let l = mod-lt (k * k) p in omega arith)
 
-  whole-small : A * whole ≤ A * k
+  pub whole-small : A * whole ≤ A * k
   whole-small = mul-le-mul-left A (div-le-of-le-mul d (mul-le-mul-right k h))
 
   bent-split : A * (bent d k + 9 * (k * k)) ≡ A * (34 * k * d)

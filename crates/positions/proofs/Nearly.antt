@@ -2,11 +2,11 @@
 use mathlib.Core.Path.{_≡_, sym, subst}
 use mathlib.Core.Bool.{true, false}
 use Prim.Native.Nat.{ℕ, _+_, _*_, _-_, _/_, _%_, _^_, _≤_, _<_}
-use native.Mathlib.Nat.{div-eq-of-lt-le, div-lt-iff-lt-mul, div-le-of-le-mul, mod-lt, mul-le-mul, mul-le-mul-left, mul-le-mul-right}
+use native.Mathlib.Nat.{div-eq-of-lt-le, div-lt-iff-lt-mul, mod-lt, mul-le-mul, mul-le-mul-left}
 use native.Mathlib.Omega.{arith}
 use lib.IntN.{ℤ, natAbs}
 use Rattle.arithmetic.specs.Integers.{isNegative}
-use Rattle.cubemap.proofs.Positions.{acpFirst, acp-first, AcpFits, acp-fits}
+use Rattle.cubemap.proofs.Positions.{acpFirst, acp-first, whole-small, AcpFits, acp-fits}
 use Rattle.positions.specs.Near.{AcpNear}
 
 -- nothing overflows, and no difference goes below zero, where w is the quotient of k² by d
@@ -53,9 +53,6 @@ module _ (A k d : ℕ) (a : A ≤ 512) (h : k ≤ d) (p : 0 < d) (b : d ≤ 5368
   middle-small : A * d ≤ 512 * 536870911
   middle-small = mul-le-mul {n₂ = 512} {m₂ = 536870911} a b
 
-  whole-small : A * whole ≤ A * k
-  whole-small = mul-le-mul-left A (div-le-of-le-mul d (mul-le-mul-right k h))
-
   -- where x is k, and where it is −k
   pub near-above : (x : ℤ) → k ≡ natAbs x → isNegative x ≡ false → AcpNear A x d (middle + 2176 * A * k - 576 * A * whole)
   near-above x e n =
@@ -72,7 +69,7 @@ module _ (A k d : ℕ) (a : A ≤ 512) (h : k ≤ d) (p : 0 < d) (b : d ≤ 5368
       record {
         most = omega (arith, f, fits .below, low-small);
         least = omega (arith, f, fits .below, low-small);
-        small = omega (arith, whole-small, linear-small, middle-small);
+        small = omega (arith, whole-small A k d h p, linear-small, middle-small);
       }
 
   pub near-fits : (w : ℕ) → w ≡ whole → NearFits A k d w

@@ -1,10 +1,10 @@
 // T of a ratio: where x / d of the way from the middle of a face to its edge lies, in 64ths of a sample. Divisions are exact; a double's guess saves most of them.
 ghost use mathlib.Core.Path.{_≡_};
 ghost use Prim.Native.Nat.{_/_, _≤_, _<_};
-ghost use lib.IntN.{natAbs};
 ghost use Rattle.cubemap.specs.RayToPlace.{position64};
 ghost use Rattle.cubemap.proofs.Positions.{acpFirst};
 ghost use Rattle.positions.specs.Near.{AcpNear};
+ghost use Rattle.positions.specs.Ratios.{Ratio};
 use cubemap::Format;
 
 // A whole number as a double.
@@ -42,7 +42,7 @@ fn quotient(n: u64, e: u64, ratio: f64) -> u64
 
 // T of x / d in CMP: one division, of a number that is not negative. Here and below, `inverse` is about 1 / d.
 fn cmp_position(size: u64, x: i64, d: u64, inverse: f64) -> i64
-    requires { ⌜ (size ≤ 512) × (0 < d) × (d ≤ 536870911) × (natAbs x ≤ d) ⌝ }
+    requires { ⌜ Ratio size x d ⌝ }
     ensures { λ r. ⌜ r ≡ position64 Format.Cmp size x d ⌝ }
 {
     let s = (x + d as i64) as u64;
@@ -52,7 +52,7 @@ fn cmp_position(size: u64, x: i64, d: u64, inverse: f64) -> i64
 
 // The numerator of T + 32 in ACP, which exceeds 64 bits, divided by d and rounded down: by the quotient and the remainder of x² / d.
 fn acp_first(size: u64, x: i64, d: u64) -> u64
-    requires { ⌜ (size ≤ 512) × (0 < d) × (d ≤ 536870911) × (natAbs x ≤ d) ⌝ }
+    requires { ⌜ Ratio size x d ⌝ }
     ensures { λ r. ⌜ (r ≡ acpFirst size x d) ⌝ }
 {
     let k = arithmetic::magnitude(x);
@@ -70,7 +70,7 @@ fn acp_first(size: u64, x: i64, d: u64) -> u64
 
 // That number, or at most 576·A more: by the quotient of x² / d alone.
 fn acp_near(size: u64, x: i64, d: u64, inverse: f64) -> u64
-    requires { ⌜ (size ≤ 512) × (0 < d) × (d ≤ 536870911) × (natAbs x ≤ d) ⌝ }
+    requires { ⌜ Ratio size x d ⌝ }
     ensures { λ r. ⌜ AcpNear size x d r ⌝ }
 {
     let k = arithmetic::magnitude(x);
@@ -87,7 +87,7 @@ fn acp_near(size: u64, x: i64, d: u64, inverse: f64) -> u64
 
 // T of x / d in ACP. The nested divisions are exact; where 576·A less than `near` has the same quotient by 50·d, the second of the three cannot matter and is not made.
 fn acp_position(size: u64, x: i64, d: u64, inverse: f64) -> i64
-    requires { ⌜ (size ≤ 512) × (0 < d) × (d ≤ 536870911) × (natAbs x ≤ d) ⌝ }
+    requires { ⌜ Ratio size x d ⌝ }
     ensures { λ r. ⌜ r ≡ position64 Format.Acp size x d ⌝ }
 {
     let near = acp_near(size, x, d, inverse);
@@ -102,7 +102,7 @@ fn acp_position(size: u64, x: i64, d: u64, inverse: f64) -> i64
 
 // T of x / d.
 pub fn position(format: Format, size: u64, x: i64, d: u64, inverse: f64) -> i64
-    requires { ⌜ (size ≤ 512) × (0 < d) × (d ≤ 536870911) × (natAbs x ≤ d) ⌝ }
+    requires { ⌜ Ratio size x d ⌝ }
     ensures { λ r. ⌜ r ≡ position64 format size x d ⌝ }
 {
     match format {

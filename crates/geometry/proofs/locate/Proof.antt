@@ -1,6 +1,6 @@
 -- `locate` meets its contract: what Table 4 gives are ratios of at most 1, as `position` asks.
 use mathlib.Core.Path.{_≡_, sym, _∙_, ap}
-use Prim.Native.Nat.{_≤_, _<_}
+use Prim.Native.Nat.{_≤_}
 use native.Mathlib.Nat.{le-trans}
 use lib.IntN.{ℤ, natAbs}
 use mir.Syntax.{w64}
@@ -12,6 +12,7 @@ use Rattle.cubemap.specs.RayToPlace.{position64, located}
 use Rattle.cubemap.proofs.Ranges.{ray-range}
 use Rattle.cubemap.proofs.Faces.{Ratios, table4-ratios}
 use Rattle.cubemap.proofs.Locate.{locate-is}
+use Rattle.positions.specs.Ratios.{Ratio}
 use Rattle.geometry.specs.declared.Facing.{Facing}
 use Rattle.geometry.proofs.locate.Statement.{statement}
 use Rattle.geometry.proofs.locate.Tie as tie
@@ -29,9 +30,8 @@ module _ (c : tie.After-table4) where
   read : (x : ℤ) → natAbs x ≤ f .distance → toZ w64 (ofZ w64 x) ≡ x
   read x h = held x (le-trans h (ratios .bounded)) tt .is
 
-  asks : (x : ℤ) → natAbs x ≤ f .distance
-      → (c .before .args .size ≤ 512) × (0 < f .distance) × (f .distance ≤ 536870911) × (natAbs (toZ w64 (ofZ w64 x)) ≤ f .distance)
-  asks x h = (c .before .pre .0, ratios .positive, ratios .bounded, rw (read x h) h)
+  asks : (x : ℤ) → natAbs x ≤ f .distance → Ratio (c .before .args .size) (toZ w64 (ofZ w64 x)) (f .distance)
+  asks x h = record { size-most = c .before .pre .0; positive = ratios .positive; bounded = ratios .bounded; at-most-1 = rw (read x h) h }
 
   -- T of a number, from what `position` ensures of it
   position-is : (x r : ℤ) → natAbs x ≤ f .distance → SFits w64 r

@@ -19,7 +19,7 @@ module _ (c : tie.After-magnitude) where
 
   fits : AcpFits (c .before .args .size) (c .magnitude .result) (c .before .args .d)
   fits = acp-fits (c .before .args .size) (c .magnitude .result) (c .before .args .d)
-      (c .before .pre .0) (rw k-is (c .before .pre .3)) (c .before .pre .1) (c .before .pre .2)
+      (c .before .pre .size-most) (rw k-is (c .before .pre .at-most-1)) (c .before .pre .positive) (c .before .pre .bounded)
 
 returns : tie.Need-returns
 returns c =

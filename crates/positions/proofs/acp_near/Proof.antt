@@ -19,10 +19,10 @@ module _ (c : tie.After-magnitude) where
   k-is = c .magnitude .ensures ∙ ap natAbs (toZ-ofZ (s .fits .x))
 
   k-most : c .magnitude .result ≤ s .args .d
-  k-most = subst (λ n. n ≤ s .args .d) (sym k-is) (s .pre .3)
+  k-most = subst (λ n. n ≤ s .args .d) (sym k-is) (s .pre .at-most-1)
 
   fits : (w : ℕ) → w ≡ c .magnitude .result * c .magnitude .result / s .args .d → NearFits (s .args .size) (c .magnitude .result) (s .args .d) w
-  fits = near-fits (s .args .size) (c .magnitude .result) (s .args .d) (s .pre .0) k-most (s .pre .1) (s .pre .2)
+  fits = near-fits (s .args .size) (c .magnitude .result) (s .args .d) (s .pre .size-most) k-most (s .pre .positive) (s .pre .bounded)
 
 -- what holds behind the quotient
 known : (c : tie.After-quotient) → let m = c .before .before in
@@ -36,7 +36,7 @@ returns c =
     let k = m .magnitude .result in
     subst (λ w. AcpNear (a .size) (a .x) (a .d) (1600 * a .size * a .d + 25 * a .d + 576 * a .size * w + 576 * a .size - 2176 * a .size * k))
     (sym (c .before .quotient .ensures))
-    (near-below (a .size) k (a .d) (s m .pre .0) (k-most m) (s m .pre .1) (s m .pre .2) (a .x) (k-is m)
+    (near-below (a .size) k (a .d) (s m .pre .size-most) (k-most m) (s m .pre .positive) (s m .pre .bounded) (a .x) (k-is m)
     (tests-negative (toZ-ofZ (s m .fits .x)) (c .if1 .taken)))
 
 returns-2 : tie.Need-returns-2
@@ -46,7 +46,7 @@ returns-2 c =
     let k = m .magnitude .result in
     subst (λ w. AcpNear (a .size) (a .x) (a .d) (1600 * a .size * a .d + 25 * a .d + 2176 * a .size * k - 576 * a .size * w))
     (sym (c .before .quotient .ensures))
-    (near-above (a .size) k (a .d) (s m .pre .0) (k-most m) (s m .pre .1) (s m .pre .2) (a .x) (k-is m)
+    (near-above (a .size) k (a .d) (s m .pre .size-most) (k-most m) (s m .pre .positive) (s m .pre .bounded) (a .x) (k-is m)
     (tests-negative (toZ-ofZ (s m .fits .x)) (c .if1 .left)))
 
 magnitude-requires : tie.Need-magnitude-requires

@@ -28,10 +28,10 @@ module _ (s : tie.Start) where
   -- the quotient, as the machine holds it
   module _ (q : ℕ) (e : q ≡ acpFirst A x d / (50 * d)) where
     is : position64 Format.Acp A x d ≡ pos q -ℤ pos 32
-    is = position-acp A x d (s .pre .3) (s .pre .1) ∙ ap (λ n. pos n -ℤ pos 32) (sym e)
+    is = position-acp A x d (s .pre .at-most-1) (s .pre .positive) ∙ ap (λ n. pos n -ℤ pos 32) (sym e)
 
     small : q ≤ 32768
-    small = omega (arith, position-fits Format.Acp A x d q (s .pre .3) (s .pre .1) is)
+    small = omega (arith, position-fits Format.Acp A x d q (s .pre .at-most-1) (s .pre .positive) is)
 
     held-q : Held q (pos q) 32768
     held-q = held-nat small tt
@@ -55,7 +55,7 @@ module _ (c : tie.After-quotient) where
   near-is = subst (λ x. AcpNear (A t) x (d t) near) (toZ-ofZ (t .fits .x)) (m .acp-near .ensures)
 
   divisor : 0 < 50 * d t
-  divisor = omega (arith, t .pre .1)
+  divisor = omega (arith, t .pre .positive)
 
   split : near / (50 * d t) * (50 * d t) + near % (50 * d t) ≡ near
   split = div-add-mod' near (50 * d t)

@@ -28,13 +28,13 @@ module _ (c : tie.Start) where
   d = c .args .d
 
   held-x : Held (ofZ w64 x) x 536870911
-  held-x = held x (le-trans (c .pre .3) (c .pre .2)) tt
+  held-x = held x (le-trans (c .pre .at-most-1) (c .pre .bounded)) tt
 
   held-d : Held d (pos d) 536870911
-  held-d = held-nat (c .pre .2) tt
+  held-d = held-nat (c .pre .bounded) tt
 
   above : Lifted x d
-  above = lifted x d (c .pre .3)
+  above = lifted x d (c .pre .at-most-1)
 
   abbrev s : ℕ
   s = natAbs (toZ w64 (ofZ w64 (toZ w64 (ofZ w64 x) +ℤ toZ w64 d)))
@@ -43,16 +43,16 @@ module _ (c : tie.Start) where
   s-is = ap natAbs (add held-x held-d tt .is ∙ above .is)
 
   s-small : A * s ≤ 512 * 1073741822
-  s-small = mul-le-mul {n₂ = 512} {m₂ = 1073741822} (c .pre .0) (omega (arith, s-is, above .high))
+  s-small = mul-le-mul {n₂ = 512} {m₂ = 1073741822} (c .pre .size-most) (omega (arith, s-is, above .high))
 
   abbrev q : ℕ
   q = (64 * A * s + d) / (2 * d)
 
   is : position64 Format.Cmp A x d ≡ pos q -ℤ pos 32
-  is = position-cmp A s x d (c .pre .1) (above .is ∙ ap pos (sym s-is))
+  is = position-cmp A s x d (c .pre .positive) (above .is ∙ ap pos (sym s-is))
 
   small : q ≤ 32768
-  small = omega (arith, position-fits Format.Cmp A x d q (c .pre .3) (c .pre .1) is)
+  small = omega (arith, position-fits Format.Cmp A x d q (c .pre .at-most-1) (c .pre .positive) is)
 
 -- what the division gave is T + 32
 module _ (c : tie.After-quotient) where
