@@ -61,7 +61,7 @@ fn settings_answer(
 }
 
 // Questions 1 to 10, in order.
-pub fn convert_answer(
+fn convert_answer(
     shape: Shape,
     target_size: u64,
     target_format: u64,

@@ -64,7 +64,7 @@ pub fn put_sample(bytes: &mut [u8], index: usize, value: u64)
 }
 
 // The number of samples of a frame.
-pub fn samples_in(shape: Shape) -> u64
+fn samples_in(shape: Shape) -> u64
     requires { ⌜ shape .size ≤ 512 ⌝ }
     ensures { λ r. ⌜ (r ≡ samplesIn shape) × (r ≤ 1572864) ⌝ }
 {

@@ -75,7 +75,7 @@ pub fn from_centre(size: u64, m: u64) -> i64
 }
 
 // The face coordinate of a column or a row: a of column m, b of row m.
-pub fn face_coordinate(format: Format, size: u64, m: u64) -> i64
+fn face_coordinate(format: Format, size: u64, m: u64) -> i64
     requires { ⌜ (size ≤ 512) × (m < size) ⌝ }
     ensures { λ r. ⌜ r ≡ paper.faceCoordinate format size m ⌝ }
 {
@@ -138,11 +138,11 @@ pub fn table3(face: u64, s: i64, a: i64, b: i64) -> Ray
 // ---- from ray to place
 
 // What Table 4 gives for a ray: the face, u × d, v × d, and d.
-pub struct Facing {
-    pub face: u64,
-    pub across: i64,
-    pub down: i64,
-    pub distance: u64,
+struct Facing {
+    face: u64,
+    across: i64,
+    down: i64,
+    distance: u64,
 }
 
 // Table 4. At equal sizes the earlier row wins.
@@ -226,7 +226,7 @@ pub fn locate(format: Format, size: u64, v: Ray) -> Located
 // ---- the call
 
 // Question 13.
-pub fn in_range(v: Ray) -> bool
+fn in_range(v: Ray) -> bool
     ensures { λ r. ⌜ r ≡ rayInRange v ⌝ }
 {
     let sx = arithmetic::within(536870911, v.x);
@@ -236,7 +236,7 @@ pub fn in_range(v: Ray) -> bool
 }
 
 // Question 14.
-pub fn nonzero(v: Ray) -> bool
+fn nonzero(v: Ray) -> bool
     ensures { λ r. ⌜ r ≡ rayNonzero v ⌝ }
 {
     let x = v.x;

@@ -57,7 +57,7 @@ fn steps_in_slot(size: u64, slot: u64, turns: u64) -> FaceSteps
 }
 
 // The steps of a face in a layout.
-pub fn steps_of(size: u64, layout: Layout, face: u64) -> FaceSteps
+fn steps_of(size: u64, layout: Layout, face: u64) -> FaceSteps
     requires { ⌜ (1 ≤ size) × (size ≤ 512) × T (layoutOK (layoutBytes layout)) × (face < 6) ⌝ }
     ensures { λ r. ⌜ Steps size r (λ m n. paper.index size (layoutBytes layout) (place face m n)) ⌝ }
 {

@@ -282,7 +282,7 @@ fn reduced(t: Rotation) -> Rotation
 // ---- fold and equality
 
 // The fold of a first and a later rotation.
-pub fn compose(first: Rotation, later: Rotation) -> Rotation
+fn compose(first: Rotation, later: Rotation) -> Rotation
     requires { ⌜ T (rotationInRange first) × T (rotationInRange later) ⌝ }
     ensures { λ r. ⌜ r ≡ paper.compose first later ⌝ }
 {
@@ -305,7 +305,7 @@ fn same_numbers(a: Rotation, b: Rotation) -> bool
 }
 
 // Are the two rotations equal, once reduced?
-pub fn same_rotation(a: Rotation, b: Rotation) -> bool
+fn same_rotation(a: Rotation, b: Rotation) -> bool
     requires { ⌜ T (rotationInRange a) × T (rotationInRange b) ⌝ }
     ensures { λ r. ⌜ r ≡ paper.sameRotation a b ⌝ }
 {

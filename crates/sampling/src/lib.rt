@@ -33,7 +33,7 @@ fn nearest_column(size: u64, t: i64) -> u64
 }
 
 // The sample at the nearest place.
-pub fn nearest(plane: &[u8], size: u64, steps: &[i64; 18], p: Located) -> u64
+fn nearest(plane: &[u8], size: u64, steps: &[i64; 18], p: Located) -> u64
     requires { ⌜ SteppedPlane size (now plane) (now steps) × OnFace size p ⌝ }
     ensures { λ r. ⌜ (r ≡ sampleBy (now (plane .entry)) (now (steps .entry)) (nearestPlace size p)) × (r < 65536) ⌝ }
 {
@@ -380,7 +380,7 @@ fn rounded(sum: i64) -> i64
 }
 
 // The cubic value at a position.
-pub fn cubic(
+fn cubic(
     plane: &[u8],
     size: u64,
     steps: &[i64; 18],
