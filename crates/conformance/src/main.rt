@@ -47,7 +47,7 @@ struct Case {
 }
 
 // What a score came to: the code that the call returned and the two numbers of its answer.
-struct Scored {
+struct ScoreOutcome {
     code: u64,
     errors: u64,
     weights: u64,
@@ -58,7 +58,7 @@ struct Outcome {
     code: u64,
     digest: u64,
     samples: [u64; 6],
-    score: Scored,
+    score: ScoreOutcome,
 }
 
 // ---- the source's samples
@@ -120,13 +120,6 @@ fn fill_target(target: &mut [u8]) {
     }
 }
 
-// A byte as a number, with its bound.
-fn wide(b: u8) -> u64
-    ensures { λ r. ⌜ (r ≡ b) × (r < 256) ⌝ }
-{
-    b as u64
-}
-
 // The digest of all bytes, in order.
 fn digest_of(bytes: &[u8]) -> u64
     ensures { λ r. ⌜ r < 4294967291 ⌝ }
@@ -134,7 +127,7 @@ fn digest_of(bytes: &[u8]) -> u64
     let mut h: u64 = 0;
     let mut i = 0;
     while i < bytes.len() {
-        h = (h * 257 + wide(bytes[i]) + 1) % MODULUS;
+        h = (h * 257 + frame::wide(bytes[i]) + 1) % MODULUS;
         i += 1;
     }
     h
@@ -255,8 +248,8 @@ fn half_number(answer: &[u8; 16], at: usize) -> u64
     requires { ⌜ at ≤ 12 ⌝ }
     ensures { λ r. ⌜ r < 2 ^ 32 ⌝ }
 {
-    let low = wide(answer[at]) + 256 * wide(answer[at + 1]);
-    let high = wide(answer[at + 2]) + 256 * wide(answer[at + 3]);
+    let low = frame::wide(answer[at]) + 256 * frame::wide(answer[at + 1]);
+    let high = frame::wide(answer[at + 2]) + 256 * frame::wide(answer[at + 3]);
     low + 65536 * high
 }
 
@@ -274,7 +267,7 @@ fn score(
     target_layout: &[u8],
     source: &[u8],
     target: &[u8],
-) -> Scored {
+) -> ScoreOutcome {
     let mut answer = [0u8; 16];
     let code = welchodrys::welchodrys_score(
         case.source_size,
@@ -286,7 +279,7 @@ fn score(
         target,
         &mut answer,
     );
-    Scored {
+    ScoreOutcome {
         code: code,
         errors: number_at(&answer, 0),
         weights: number_at(&answer, 8),
@@ -347,19 +340,6 @@ fn run(case: Case, source: &mut [u8], target: &mut [u8]) -> Outcome
 
 // ---- its line: each function stores bytes from index `at` on and says where they end
 
-// Bytes as they stand.
-fn put_bytes(text: &mut [u8], at: usize, more: &[u8]) -> usize
-    requires { ⌜ at + length (now more) ≤ length (now text) ⌝ }
-    ensures { λ r. ⌜ r ≡ at + length (now (more .entry)) ⌝ }
-{
-    let mut i = 0;
-    while i < more.len() {
-        text[at + i] = more[i];
-        i += 1;
-    }
-    at + i
-}
-
 // n in decimal, and a byte behind it.
 fn put_number(text: &mut [u8], at: usize, n: u64, behind: u8) -> usize
     requires { ⌜ at + 21 ≤ length (now text) ⌝ }
@@ -367,7 +347,7 @@ fn put_number(text: &mut [u8], at: usize, n: u64, behind: u8) -> usize
 {
     let mut digits = [0u8; 20];
     let count = io::decimal(n, &mut digits);
-    let end = put_bytes(text, at, &digits[..count]);
+    let end = listing::put_bytes(text, at, &digits[..count]);
     text[end] = behind;
     end + 1
 }

@@ -117,7 +117,7 @@ fn put_byte(text: &mut [u8], at: usize, b: u8) -> usize
 }
 
 // A text as it stands.
-fn put_bytes(text: &mut [u8], at: usize, more: &[u8]) -> usize
+pub fn put_bytes(text: &mut [u8], at: usize, more: &[u8]) -> usize
     requires { ⌜ at + length (now more) ≤ length (now text) ⌝ }
     ensures { λ r. ⌜ Put (now (text .entry)) at (now (more .entry)) r (now (text .exit)) ⌝ }
 {
