@@ -5,7 +5,7 @@ use mathlib.Core.Logic.{⊎-elim, _⊎_, inl, inr, ∥∥₁-elim}
 use Prim.Native.Nat.{ℕ, zero, suc, _+_, _-_, _*_, _/_, _%_, _^_, _<_, _≤_, _∣_}
 use native.Mathlib.Nat.{pow-suc, mul-assoc, mul-comm, mul-one, mul-add, mul-zero, div-one, div-add-mod', div-div-eq-div-mul, mod-eq-of-lt}
 use native.Mathlib.Nat.{lt-of-le-of-lt, mul-le-mul-right, le-of-dvd, ∣-prop, dvd-refl, dvd-trans, dvd-add, dvd-sub, dvd-zero, dvd-mul-right}
-use native.Mathlib.Nat.{dvd-mul-right-of-dvd, dvd-of-mul-dvd-mul-right, mul-dvd-mul-right}
+use native.Mathlib.Nat.{dvd-mul-right-of-dvd, dvd-of-mul-dvd-mul-right, mul-dvd-mul-right, eq-zero-of-zero-dvd}
 use native.Mathlib.Omega.{arith}
 use lib.Count.{trailingZeros, under}
 use lib.Dec.{lit<}
@@ -37,17 +37,9 @@ gcd-less {a} {b} {g} l r = record {
     back : a + (b - a) ≡ b
     back = omega arith
 
--- only 0 has the divisor 0
-zero-divides : (n : ℕ) → 0 ∣ n → n ≡ 0
-zero-divides zero h = refl
-zero-divides (suc n) h = absurd (∥∥₁-elim h (λ x y. absurd x) (λ s. none (s .0) (s .1)))
-  where
-    none : (k : ℕ) → suc n ≡ 0 * k → ⊥
-    none k e = omega arith
-
 -- it is 0 only where both numbers are
 pub gcd-both-zero : {a b : ℕ} → IsGcd a b 0 → (a ≡ 0) × (b ≡ 0)
-gcd-both-zero {a} {b} r = (zero-divides a (r .left), zero-divides b (r .right))
+gcd-both-zero r = (eq-zero-of-zero-dvd (r .left), eq-zero-of-zero-dvd (r .right))
 
 -- and where both are, it is
 pub gcd-zeros : (g : ℕ) → IsGcd 0 0 g → g ≡ 0

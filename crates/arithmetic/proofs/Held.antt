@@ -123,10 +123,6 @@ shift {n} {x} {A} p t m = record {
     small : natAbs (floorDiv x m) ≤ A
     small = le-trans (floor-small x m) (p .small)
 
--- a test of two held numbers is the test of the numbers
-pub lt-is : {n m : ℕ} {x y : ℤ} {A B : ℕ} {t : Bool} → Held n x A → Held m y B → ltZ (toZ w64 n) (toZ w64 m) ≡ t → ltZ x y ≡ t
-lt-is p q e = sym (ap₂ ltZ (p .is) (q .is)) ∙ e
-
 -- a held number that is not negative, cast to u64
 pub cast-ok : {n : ℕ} {x : ℤ} {A : ℕ} → Held n x A → T (ltb A (2 ^ 63)) → T (nonNeg x) → T (nonNeg (toZ w64 n)) × Fits w64 (natAbs (toZ w64 n))
 cast-ok {n} {x} {A} p t h = (
@@ -134,12 +130,7 @@ cast-ok {n} {x} {A} p t h = (
   subst (λ z. Fits w64 (natAbs z)) (sym (p .is)) (record { fits = (let b = ltb→lt A (2 ^ 63) t in let s = p .small in omega arith) }),
 )
 
--- below zero or not, and what that says of the sign
-pub below-zero : (x : ℤ) → ltZ x (pos 0) ≡ true → T (nonNeg (negℤ x))
-below-zero (pos n) e = let h = ltb→lt n 0 (subst T (sym e) tt) in absurd (omega arith)
-below-zero (negsuc n) e = tt
-
-pub not-below-zero : (x : ℤ) → ltZ x (pos 0) ≡ false → T (nonNeg x)
+not-below-zero : (x : ℤ) → ltZ x (pos 0) ≡ false → T (nonNeg x)
 not-below-zero (pos n) e = tt
 not-below-zero (negsuc n) e = subst T e tt
 

@@ -1,14 +1,13 @@
--- The order of ℤ by differences: a ≤ b says that b is a and a natural number, a < b that it is a and one above 0. With the ring solver this gives the
--- other laws.
-use mathlib.Core.Path.{_≡_, refl, sym, _∙_, ap, ap₂, subst}
+-- The order of ℤ by differences: a ≤ b says that b is a and a natural number, a < b that it is a and one above 0.
+use mathlib.Core.Path.{_≡_, refl, sym, _∙_, ap, subst}
 use mathlib.Core.List.{[], _∷_}
 use mathlib.Core.Bool.{Bool, true, false, cond}
-use Prim.Native.Nat.{ℕ, suc, _+_, _*_, _-_, _<_}
+use Prim.Native.Nat.{ℕ, suc, _+_, _-_, _<_}
 use native.Mathlib.Omega.{arith}
 use lib.Dec.{T, leb→le, le→leb, ltb, ltb→lt, lt→ltb}
-use lib.IntN.{ℤ, pos, negsuc, _+ℤ_, _*ℤ_}
+use lib.IntN.{ℤ, pos, negsuc, _+ℤ_}
 use lib.Signed.{_≤ℤ_, _<ℤ_, leZ, ltZ}
-use Rattle.arithmetic.proofs.Ring.{var, _⊕_, _⊗_, ⊖, solve}
+use Rattle.arithmetic.proofs.Ring.{var, _⊕_, ⊖, solve}
 use Rattle.arithmetic.proofs.Sizes.{neg-above}
 
 above : (a : ℤ) (n : ℕ) → T (leZ a (a +ℤ pos n))
@@ -52,24 +51,3 @@ lt-elim a b h = step a b (h .lt)
         let e : b + suc a ≡ suc (b + a) = omega arith in
         (b + a, solve (pos (suc a) ∷ pos b ∷ []) (var 1) (⊖ (var 0) ⊕ (var 1 ⊕ var 0)) tt ∙ ap (λ m. negsuc a +ℤ pos m) e)
     step (negsuc a) (negsuc b) t = let h = ltb→lt b a t in (a - suc b, neg-above b (suc (a - suc b)) (suc a) (omega arith))
-
-pub le-trans : (a b c : ℤ) → a ≤ℤ b → b ≤ℤ c → a ≤ℤ c
-le-trans a b c h g =
-    let p = le-elim a b h in
-    let q = le-elim b c g in
-    le-intro a c (p .0 + q .0)
-    (q .1 ∙ ap (λ z. z +ℤ pos (q .0)) (p .1) ∙ solve (a ∷ pos (p .0) ∷ pos (q .0) ∷ []) (var 0 ⊕ var 1 ⊕ var 2) (var 0 ⊕ (var 1 ⊕ var 2)) tt)
-
-pub le-add : (a b c d : ℤ) → a ≤ℤ b → c ≤ℤ d → (a +ℤ c) ≤ℤ (b +ℤ d)
-le-add a b c d h g =
-    let p = le-elim a b h in
-    let q = le-elim c d g in
-    le-intro (a +ℤ c) (b +ℤ d) (p .0 + q .0)
-    (ap₂ _+ℤ_ (p .1) (q .1)
-    ∙ solve (a ∷ c ∷ pos (p .0) ∷ pos (q .0) ∷ []) (var 0 ⊕ var 2 ⊕ (var 1 ⊕ var 3)) (var 0 ⊕ var 1 ⊕ (var 2 ⊕ var 3)) tt)
-
-pub le-mul : (m : ℕ) (a b : ℤ) → a ≤ℤ b → (pos m *ℤ a) ≤ℤ (pos m *ℤ b)
-le-mul m a b h =
-    let p = le-elim a b h in
-    le-intro (pos m *ℤ a) (pos m *ℤ b) (m * p .0)
-    (ap (λ z. pos m *ℤ z) (p .1) ∙ solve (pos m ∷ a ∷ pos (p .0) ∷ []) (var 0 ⊗ (var 1 ⊕ var 2)) (var 0 ⊗ var 1 ⊕ var 0 ⊗ var 2) tt)

@@ -1,6 +1,6 @@
 -- What `largest` and `lowest` find, what `allBelow` says, and loops that ask for them.
 use mathlib.Core.Path.{_≡_, refl, sym, _∙_, ap, ap₂, subst}
-use mathlib.Core.Bool.{Bool, true, false, _&&_, not}
+use mathlib.Core.Bool.{Bool, true, false, _&&_, not, true≢false}
 use mathlib.Core.Logic.{_⊎_, inl, inr, ⊎-elim}
 use Prim.Native.Nat.{ℕ, zero, suc, _+_, _≤_, _<_}
 use native.Mathlib.Decide.{ℕ-discrete, decLt}
@@ -9,7 +9,7 @@ use native.Mathlib.Numerals.{add-one}
 use native.Mathlib.Omega.{arith}
 use lib.Dec.{T}
 use Rattle.arithmetic.specs.Searches.{largest, lowestFrom, lowest, allBelow}
-use Rattle.arithmetic.proofs.Tests.{and-left, and-right, and-both, passes, fails, true-not-false, same-test}
+use Rattle.arithmetic.proofs.Tests.{and-left, and-right, and-both, passes, fails, same-test}
 
 -- ---- the largest
 
@@ -161,8 +161,8 @@ lowestFrom-cong f g (suc n) i h = go (f i) (g i) (h i (omega arith) (omega arith
     go : (b c : Bool) → b ≡ c → lowestFrom f n (suc i) ≡ lowestFrom g n (suc i)
         → _≡_ {A = ℕ} (elim b [ true ↦ i | false ↦ lowestFrom f n (suc i) ]) (elim c [ true ↦ i | false ↦ lowestFrom g n (suc i) ])
     go true true e ih = refl
-    go true false e ih = absurd (true-not-false e)
-    go false true e ih = absurd (true-not-false (sym e))
+    go true false e ih = absurd (true≢false e)
+    go false true e ih = absurd (true≢false (sym e))
     go false false e ih = ih
 
 pub lowest-cong : (f g : ℕ → Bool) (n : ℕ) → ((i : ℕ) → i < n → f i ≡ g i) → lowest f n ≡ lowest g n

@@ -15,9 +15,6 @@ not-refused {r} e h = passes (sym e ∙ not-false r h)
 pub fails : {b : Bool} → b ≡ false → T b → ⊥
 fails e t = subst T e t
 
-pub true-not-false : true ≡ false → ⊥
-true-not-false e = subst T e tt
-
 -- two tests that pass together are one
 pub same-test : (a b : Bool) → (T a → T b) → (T b → T a) → a ≡ b
 same-test true true f g = refl
@@ -38,10 +35,6 @@ and-right false b t = absurd t
 pub and-both : (a b : Bool) → T a → T b → T (a && b)
 and-both true b s t = t
 and-both false b s t = absurd s
-
-pub and-false : (b : Bool) → (b && false) ≡ false
-and-false true = refl
-and-false false = refl
 
 -- three and four tests in a row
 pub record All3 (a b c : Bool) : Type 0 where

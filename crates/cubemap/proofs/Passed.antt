@@ -1,6 +1,6 @@
 -- What an accepted call has passed: each list of checks inverted once, into a record with named fields.
 use mathlib.Core.Path.{_≡_, refl, sym, _∙_, ap}
-use mathlib.Core.Bool.{Bool, true, false, _&&_, not, cond}
+use mathlib.Core.Bool.{Bool, true, false, _&&_, not, cond, and-false}
 use mathlib.Core.List.{List, [], _∷_, _++_}
 use Prim.Native.Nat.{ℕ, _^_, _≤_, _<_}
 use native.Mathlib.Nat.{pow-le-pow-right}
@@ -8,7 +8,7 @@ use native.Mathlib.Omega.{arith}
 use lib.Dec.{T, eqb, leb, leb→le, le→leb, T-not}
 use lib.ListN.{length}
 use borrow.Author.Tests.{not-true, lt-leb}
-use Rattle.arithmetic.proofs.Tests.{not-refused, and-left, and-right, and-both, and-false, All3, and3, cond-true, cond-both}
+use Rattle.arithmetic.proofs.Tests.{not-refused, and-left, and-right, and-both, All3, and3, cond-true, cond-both}
 use Rattle.cubemap.specs.declared.Ray.{Ray}
 use Rattle.cubemap.specs.Interface.{Answer, answer, accepted, isAccepted}
 use Rattle.cubemap.specs.Checks.{ConvertSettings, ScoreSettings, targetShape, Check, check, firstFailed, between, sizeOK, depthOK, codeOK}

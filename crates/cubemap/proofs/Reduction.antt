@@ -1,7 +1,7 @@
 -- The fold: a rotation is ± its common divisor times what it is reduced to, every common divisor divides that one, and a composition rotates as the
 -- product does. Which of the two signs a reduction takes, only the last part of this module knows.
 use mathlib.Core.Path.{_≡_, refl, sym, _∙_, ap, subst, subst₂}
-use mathlib.Core.Bool.{Bool, true, false, _&&_, _||_, cond}
+use mathlib.Core.Bool.{Bool, true, false, _&&_, _||_, cond, true≢false}
 use mathlib.Core.List.{[], _∷_}
 use Prim.Native.Nat.{ℕ, zero, suc, _+_, _*_, _-_, _/_, _%_, _≤_, _<_, _∣_}
 use native.Mathlib.Nat.{mod-one, mod-eq-of-lt, div-add-mod', lt-of-not-le, mul-comm, mul-pos, mod-lt, dvd-zero, dvd-mul-left, dvd-mul-right}
@@ -14,7 +14,7 @@ use lib.IntN.{ℤ, pos, negsuc, negℤ, natAbs, _*ℤ_}
 use lib.Signed.{ltZ}
 use Rattle.arithmetic.specs.Integers.{withSignOf, equalℤ}
 use Rattle.arithmetic.specs.Searches.{largest}
-use Rattle.arithmetic.proofs.Tests.{passes, true-not-false, and-left, and-right, All4, and4, all4}
+use Rattle.arithmetic.proofs.Tests.{passes, and-left, and-right, All4, and4, all4}
 use Rattle.arithmetic.proofs.Integers.{mul-neg}
 use Rattle.arithmetic.proofs.Sizes.{natAbs-neg, natAbs-mul, own-sign, sign-size, equalℤ→eq, equalℤ-refl}
 use Rattle.arithmetic.proofs.Divisors.{IsGcd, gcd-both-zero, gcd-zeros}
@@ -61,18 +61,6 @@ divides-one t =
 -- the sum of the four sizes
 abbrev pub sizes : Rotation → ℕ
 sizes t = natAbs (t .e0) + natAbs (t .e1) + natAbs (t .e2) + natAbs (t .e3)
-
--- it is not 0 where the sum of squares is not
-pub sizes-positive : (t : Rotation) → 0 < sumOfSquares t → 0 < sizes t
-unfolding sumOfSquares
-sizes-positive t h = go (natAbs (t .e0)) (natAbs (t .e1)) (natAbs (t .e2)) (natAbs (t .e3)) h
-  where
-    go : (a b c d : ℕ) → 0 < a * a + b * b + c * c + d * d → 0 < a + b + c + d
-    go zero zero zero zero h = h
-    go (suc a) b c d h = omega arith
-    go zero (suc b) c d h = omega arith
-    go zero zero (suc c) d h = omega arith
-    go zero zero zero (suc d) h = omega arith
 
 -- ---- the common divisor
 
@@ -425,7 +413,7 @@ reduced-sign t = go (divided t) (firstNegative (divided t)) refl
   where
     flipped : (x : ℤ) (a b : Bool) → (a ≡ true → b ≡ false) → leadNegative x a ≡ true → leadNegative (negℤ x) b ≡ false
     flipped (pos zero) a b h e = h e
-    flipped (pos (suc n)) a b h e = absurd (true-not-false (sym e))
+    flipped (pos (suc n)) a b h e = absurd (true≢false (sym e))
     flipped (negsuc n) a b h e = refl
 
     go : (u : Rotation) (b : Bool) → firstNegative u ≡ b → firstNegative (cond b (opposite u) u) ≡ false

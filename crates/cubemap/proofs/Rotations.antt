@@ -426,11 +426,6 @@ inverse-rotated t v =
     sym (rotated-product (inverse t) t v) ∙ ap (λ u. rotated u v) (inverse-product t)
     ∙ rotated-multiple (pos (sumOfSquares t)) identity v ∙ ap (times (sumOfSquares t * sumOfSquares t)) (rotated-identity v)
 
-pub rotated-inverse : (t : Rotation) (v : Ray) → rotated t (rotated (inverse t) v) ≡ times (sumOfSquares t * sumOfSquares t) v
-rotated-inverse t v =
-    ap (λ u. rotated u (rotated (inverse t) v)) (sym (inverse-inverse t)) ∙ inverse-rotated (inverse t) v
-    ∙ ap (λ n. times (n * n) v) (sum-inverse t)
-
 -- the inverse leads back
 pub inverse-leads : (t : Rotation) (v w : Ray) → 0 < sumOfSquares t → LeadsTo t v w → LeadsTo (inverse t) w v
 inverse-leads t v w h e =
