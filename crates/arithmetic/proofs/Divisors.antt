@@ -6,6 +6,7 @@ use Prim.Native.Nat.{ℕ, zero, suc, _+_, _-_, _*_, _/_, _%_, _^_, _<_, _≤_, _
 use native.Mathlib.Nat.{pow-suc, mul-assoc, mul-comm, mul-one, mul-add, mul-zero, div-one, div-add-mod', div-div-eq-div-mul, mod-eq-of-lt}
 use native.Mathlib.Nat.{lt-of-le-of-lt, mul-le-mul-right, le-of-dvd, ∣-prop, dvd-refl, dvd-trans, dvd-add, dvd-sub, dvd-zero, dvd-mul-right}
 use native.Mathlib.Nat.{dvd-mul-right-of-dvd, dvd-of-mul-dvd-mul-right, mul-dvd-mul-right, eq-zero-of-zero-dvd}
+use native.Mathlib.Decide.{decLt}
 use native.Mathlib.Omega.{arith}
 use lib.Count.{trailingZeros, under}
 use lib.Dec.{lit<}
@@ -36,6 +37,20 @@ gcd-less {a} {b} {g} l r = record {
   where
     back : a + (b - a) ≡ b
     back = omega arith
+
+-- every two numbers have one
+pub gcd-exists : (a b : ℕ) → (g : ℕ) × IsGcd a b g
+gcd-exists a b = go (suc (a + b)) a b (omega arith)
+  where
+    less : (n a b : ℕ) → Dec (a < b) → a + b < suc n → ((x y : ℕ) → x + y < n → (g : ℕ) × IsGcd x y g) → (g : ℕ) × IsGcd a b g
+    less n zero b d h ih = (b, gcd-zero b)
+    less n (suc a) zero d h ih = (suc a, gcd-swap (gcd-zero (suc a)))
+    less n (suc a) (suc b) (yes l) h ih = let r = ih (suc a) (suc b - suc a) (omega arith) in (r .0, gcd-less (omega arith) (r .1))
+    less n (suc a) (suc b) (no l) h ih = let r = ih (suc b) (suc a - suc b) (omega arith) in (r .0, gcd-swap (gcd-less (omega arith) (r .1)))
+
+    go : (n a b : ℕ) → a + b < n → (g : ℕ) × IsGcd a b g
+    go zero a b h = absurd (omega arith)
+    go (suc n) a b h = less n a b (decLt a b) h (go n)
 
 -- it is 0 only where both numbers are
 pub gcd-both-zero : {a b : ℕ} → IsGcd a b 0 → (a ≡ 0) × (b ≡ 0)

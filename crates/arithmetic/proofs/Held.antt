@@ -15,7 +15,7 @@ use mir.Val.{SFits, Fits, toZ, ofZ}
 use mir.Facts.{toZ-ofZ}
 use Rattle.arithmetic.specs.Integers.{floorDiv, withSignOf, isPositive, isNegative, equalℤ}
 use Rattle.arithmetic.proofs.Tests.{same-test}
-use Rattle.arithmetic.proofs.Sizes.{natAbs-neg, natAbs-mul, natAbs-add, equalℤ→eq, equalℤ-refl}
+use Rattle.arithmetic.proofs.Sizes.{neg-small, natAbs-mul, natAbs-add, equalℤ→eq, equalℤ-refl}
 
 mag-natAbs : (z : ℤ) → mag z ≤ natAbs z
 mag-natAbs (pos n) = le-refl n
@@ -71,7 +71,7 @@ module _ {n m : ℕ} {x y : ℤ} {A B : ℕ} (p : Held n x A) (q : Held m y B) w
   add-small = le-trans (natAbs-add x y) (add-le-add (p .small) (q .small))
 
   sub-small : natAbs (x -ℤ y) ≤ A + B
-  sub-small = le-trans (natAbs-add x (negℤ y)) (add-le-add (p .small) (subst (λ k. k ≤ B) (sym (natAbs-neg y)) (q .small)))
+  sub-small = le-trans (natAbs-add x (negℤ y)) (add-le-add (p .small) (neg-small y (q .small)))
 
   pub mul-ok : T (ltb (A * B) (2 ^ 63)) → SFits w64 (toZ w64 n *ℤ toZ w64 m)
   mul-ok t = subst (SFits w64) (sym (ap₂ _*ℤ_ (p .is) (q .is))) (sfits mul-small (ltb→lt (A * B) (2 ^ 63) t))
@@ -96,14 +96,11 @@ module _ {n : ℕ} {x : ℤ} {A : ℕ} (p : Held n x A) (t : T (ltb A (2 ^ 63)))
   opposite-is : pos 0 -ℤ toZ w64 n ≡ negℤ x
   opposite-is = ap (λ z. pos 0 -ℤ z) (p .is) ∙ +ℤ-idl (negℤ x)
 
-  opposite-small : natAbs (negℤ x) ≤ A
-  opposite-small = subst (λ k. k ≤ A) (sym (natAbs-neg x)) (p .small)
-
   pub opposite-ok : SFits w64 (pos 0 -ℤ toZ w64 n)
-  opposite-ok = subst (SFits w64) (sym opposite-is) (sfits opposite-small (ltb→lt A (2 ^ 63) t))
+  opposite-ok = subst (SFits w64) (sym opposite-is) (sfits (neg-small x (p .small)) (ltb→lt A (2 ^ 63) t))
 
   pub opposite : Held (ofZ w64 (pos 0 -ℤ toZ w64 n)) (negℤ x) A
-  opposite = record { is = toZ-ofZ opposite-ok ∙ opposite-is; small = opposite-small }
+  opposite = record { is = toZ-ofZ opposite-ok ∙ opposite-is; small = neg-small x (p .small) }
 
 -- a shift to the right is division that rounds down
 pub shift-is : (z : ℤ) (m : ℕ) → shrZ z m ≡ floorDiv z m

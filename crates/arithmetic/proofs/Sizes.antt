@@ -1,5 +1,5 @@
 -- Sizes and signs of whole numbers: of products, sums and differences, and a size with a sign.
-use mathlib.Core.Path.{_≡_, refl, sym, _∙_, ap}
+use mathlib.Core.Path.{_≡_, refl, sym, _∙_, ap, subst}
 use mathlib.Core.Bool.{Bool, true, false}
 use Prim.Native.Nat.{ℕ, zero, suc, _+_, _*_, _-_, _≤_, _<_}
 use native.Mathlib.Nat.{eq-of-mul-eq-mul-left, mul-pos, zero-lt-suc, le-refl, mul-le-mul, lt-of-not-le}
@@ -8,6 +8,7 @@ use lib.Dec.{T, eqb→eq, eqb-refl, ltb, ltb→lt, nltb→le}
 use lib.IntN.{ℤ, pos, negsuc, negℤ, natAbs, _+ℤ_, _-ℤ_, _*ℤ_, negℤ-negℤ, negℤ-+ℤ, +ℤ-comm, -ℤ-+ℤ-cancel, pos-ne-negsuc}
 use lib.Signed.{nonNeg}
 use Rattle.arithmetic.specs.Integers.{natural, withSignOf, isPositive, isNegative, equalℤ}
+use Rattle.arithmetic.proofs.Integers.{neg-mul}
 
 -- ---- sizes
 
@@ -18,6 +19,9 @@ pub natAbs-neg : (z : ℤ) → natAbs (negℤ z) ≡ natAbs z
 natAbs-neg (pos zero) = refl
 natAbs-neg (pos (suc n)) = refl
 natAbs-neg (negsuc n) = refl
+
+pub neg-small : {n : ℕ} (z : ℤ) → natAbs z ≤ n → natAbs (negℤ z) ≤ n
+neg-small {n} z h = subst (λ m. m ≤ n) (sym (natAbs-neg z)) h
 
 pub natAbs-mul : (x y : ℤ) → natAbs (x *ℤ y) ≡ natAbs x * natAbs y
 natAbs-mul (pos a) (pos b) = refl
@@ -33,14 +37,13 @@ pub natAbs-natural : (x : ℤ) → T (nonNeg x) → natAbs x ≡ natural x
 natAbs-natural (pos n) t = refl
 natAbs-natural (negsuc n) t = absurd t
 
-pub natAbs-pos : (x : ℤ) → T (nonNeg x) → x ≡ pos (natAbs x)
-natAbs-pos (pos n) t = refl
-natAbs-pos (negsuc n) t = absurd t
-
 -- a square is that of the size
 pub square : (x : ℤ) → x *ℤ x ≡ pos (natAbs x * natAbs x)
 square (pos n) = refl
 square (negsuc n) = refl
+
+pub square-of : {a b : ℕ} → a ≡ b → a * a ≡ b * b
+square-of e = ap (λ n. n * n) e
 
 -- the greater square has the greater root
 pub root-strictly : (a b : ℕ) → a * a < b * b → a < b
@@ -138,6 +141,10 @@ pub signed : (x : ℤ) → Signed x (natAbs x)
 signed (pos n) = plus refl
 signed (negsuc n) = minus refl
 
+pub signed-neg : {x : ℤ} {n : ℕ} → Signed x n → Signed (negℤ x) n
+signed-neg (plus e) = minus (ap negℤ e)
+signed-neg {n = n} (minus e) = plus (ap negℤ e ∙ negℤ-negℤ (pos n))
+
 -- a number that is not negative is the opposite of another only where both are 0
 pub pos-neg : (m n : ℕ) → pos m ≡ negℤ (pos n) → n ≡ 0
 pos-neg m zero e = refl
@@ -151,6 +158,11 @@ sign-size (negsuc n) c = natAbs-neg (pos c)
 pub own-sign : (z : ℤ) → withSignOf z (natAbs z) ≡ z
 own-sign (pos n) = refl
 own-sign (negsuc n) = refl
+
+-- a natural factor leaves the sign
+pub sign-mul : (z : ℤ) (c k : ℕ) → withSignOf z c *ℤ pos k ≡ withSignOf z (c * k)
+sign-mul (pos n) c k = refl
+sign-mul (negsuc n) c k = neg-mul (pos c) (pos k)
 
 -- a function of sizes that takes 0 to 0 gives opposite numbers opposite values
 pub sign-neg : (f : ℕ → ℕ) → f 0 ≡ 0 → (x : ℤ) → withSignOf (negℤ x) (f (natAbs (negℤ x))) ≡ negℤ (withSignOf x (f (natAbs x)))

@@ -11,7 +11,7 @@ use Rattle.cubemap.specs.declared.Place.{Place}
 use Rattle.cubemap.specs.declared.Ray.{Ray}
 use Rattle.cubemap.specs.declared.Rotation.{Rotation}
 use Rattle.cubemap.specs.declared.Shape.{Shape}
-use Rattle.cubemap.specs.Interface.{formatOf, samplerOf, accepted, isAccepted}
+use Rattle.cubemap.specs.Interface.{formatOf, samplerOf, accepted}
 use Rattle.cubemap.specs.Frames.{IsPlace, planeSamples, sampleAtPlace}
 use Rattle.cubemap.specs.PlaceToRay.{times, rayOf}
 use Rattle.cubemap.specs.Rotations.{sumOfSquares, rotated}
@@ -19,12 +19,12 @@ use Rattle.cubemap.specs.RayToPlace.{locate}
 use Rattle.cubemap.specs.Samplers.{sampleFrom}
 use Rattle.cubemap.specs.Checks.{ConvertSettings, targetShape, samplesOK}
 use Rattle.cubemap.specs.Outcomes.{result, ifAccepted, lookUpValues, lookUpResult}
-use Rattle.cubemap.specs.Outcomes.{sourcePosition, valueAt, convertedSample, convertedBytes, convertAnswer}
+use Rattle.cubemap.specs.Outcomes.{sourcePosition, valueAt, convertedSample, convertedBytes}
 use Rattle.cubemap.proofs.FaceCoordinates.{Coordinates, coordinates}
 use Rattle.cubemap.proofs.Locate.{OnFace, locate-on-face, locate-times, middleOf, locate-own-times}
 use Rattle.cubemap.proofs.Layouts.{LayoutHolds, layout-holds}
 use Rattle.cubemap.proofs.Framed.{plane-bytes, planeOf, place-below}
-use Rattle.cubemap.proofs.Passed.{size-range, ConvertPassed, convert-passed, look-up-accepted}
+use Rattle.cubemap.proofs.Passed.{size-range, ConvertPassed, look-up-accepted}
 use Rattle.cubemap.proofs.Samplers.{value-within, value-own}
 use Rattle.cubemap.proofs.Rotations.{sum-positive, multiple, rotated-multiple, LeadsTo, leads-only}
 use Rattle.cubemap.proofs.RotatedRays.{RotatedRay, rotated-ray, place-ray}
@@ -105,11 +105,6 @@ module _ (s : ConvertSettings) (n m : ℕ) (source : List ℕ) (c : ConvertPasse
       (sampleAtPlace source (s .sourceShape .size) (s .sourceLayout)) (sourcePosition (s .sourceShape) (s .rotation) targetRay)
       (size-range (s .sourceShape .size) (c .source-size) .at-least) position-on-face
       (λ Q q. place-below (s .sourceShape) (s .sourceLayout) source Q (layout-holds (s .sourceLayout) (c .source-layout)) (c .samples) q)
-
--- the same of an accepted conversion
-pub accepted-passed : (s : ConvertSettings) (n m : ℕ) (source : List ℕ) → T (isAccepted (convertAnswer s n m source)) → ConvertPassed s n m source
-unfolding convertAnswer
-accepted-passed s n m source t = convert-passed s n m source t
 
 -- ---- cube rotations at one shape
 

@@ -77,7 +77,6 @@ module _ (s : ConvertSettings) where
 
     -- an accepted call has passed every check
     pub answer-passed : accepted ≡ convertAnswer s sourceLength targetLength source → ConvertPassed s sourceLength targetLength source
-    unfolding convertAnswer
     answer-passed e = convert-passed s sourceLength targetLength source (subst (λ a. T (isAccepted a)) e tt)
 
 -- ---- an accepted call answers 0, with index 0

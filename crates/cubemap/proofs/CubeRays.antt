@@ -4,6 +4,7 @@ use mathlib.Core.Path.{_≡_, refl, sym, _∙_, ap, ap₂}
 use Prim.Native.Nat.{ℕ, zero, suc, _-_, _<_}
 use native.Mathlib.Omega.{arith}
 use lib.IntN.{ℤ, pos, negℤ, negℤ-negℤ}
+use Rattle.arithmetic.proofs.Sizes.{Signed, plus, minus}
 use Rattle.cubemap.specs.declared.Format.{Format}
 use Rattle.cubemap.specs.declared.Place.{Place}
 use Rattle.cubemap.specs.declared.Ray.{Ray}
@@ -15,20 +16,16 @@ use Rattle.cubemap.proofs.FaceCoordinates.{Coordinates}
 use Rattle.cubemap.proofs.Faces.{across-table3, down-table3, faceOf-table3}
 use Rattle.cubemap.proofs.Rotations.{ray-eq}
 
--- the number of a column; and plus or minus the scale
+-- the number of a column
 pub record Inner (format : Format) (A : ℕ) (x : ℤ) : Type 0 where
   pub at : ℕ
   pub at-ok : at < A
   pub is : x ≡ faceCoordinate format A at
 
-pub data Outer (format : Format) (A : ℕ) (x : ℤ) : Type 0 where
-  plus : x ≡ pos (scale format A) → Outer format A x
-  minus : x ≡ negℤ (pos (scale format A)) → Outer format A x
-
 pub data CubeRay (format : Format) (A : ℕ) (v : Ray) : Type 0 where
-  alongX : Outer format A (v .x) → Inner format A (v .y) → Inner format A (v .z) → CubeRay format A v
-  alongY : Inner format A (v .x) → Outer format A (v .y) → Inner format A (v .z) → CubeRay format A v
-  alongZ : Inner format A (v .x) → Inner format A (v .y) → Outer format A (v .z) → CubeRay format A v
+  alongX : Signed (v .x) (scale format A) → Inner format A (v .y) → Inner format A (v .z) → CubeRay format A v
+  alongY : Inner format A (v .x) → Signed (v .y) (scale format A) → Inner format A (v .z) → CubeRay format A v
+  alongZ : Inner format A (v .x) → Inner format A (v .y) → Signed (v .z) (scale format A) → CubeRay format A v
 
 -- the opposite of the opposite
 flip : {x y : ℤ} → negℤ x ≡ y → negℤ y ≡ x
@@ -68,10 +65,6 @@ module _ (format : Format) (A : ℕ) (c : Coordinates format A) where
 
   pub inner-neg : {x : ℤ} → Inner format A x → Inner format A (negℤ x)
   inner-neg i = record { at = A - suc (i .at); at-ok = omega (arith, i .at-ok); is = ap negℤ (i .is) ∙ sym (c .mirror (i .at) (i .at-ok)) }
-
-  pub outer-neg : {x : ℤ} → Outer format A x → Outer format A (negℤ x)
-  outer-neg (plus e) = minus (ap negℤ e)
-  outer-neg (minus e) = plus (ap negℤ e ∙ negℤ-negℤ (pos (scale format A)))
 
   -- a place's ray is a cube ray
   pub ray-cube : (P : Place) → IsPlace A P → CubeRay format A (rayOf format A P)

@@ -11,7 +11,7 @@ use lib.Dec.{T, eqb, eqb→eq}
 use lib.IntN.{ℤ, pos, negℤ, natAbs, _*ℤ_, zero-*ℤ, +ℤ-idl, +ℤ-idr}
 use Rattle.arithmetic.proofs.Tests.{or-cases, and3}
 use Rattle.arithmetic.proofs.Integers.{neg-mul, mul-neg}
-use Rattle.arithmetic.proofs.Sizes.{natAbs-zero, Signed, plus, minus, signed}
+use Rattle.arithmetic.proofs.Sizes.{natAbs-zero, square-of, Signed, plus, minus, signed, signed-neg}
 use Rattle.arithmetic.proofs.Ring.{Expr, var, con, solve}
 use Rattle.cubemap.specs.declared.Format.{Format}
 use Rattle.cubemap.specs.declared.Ray.{Ray}
@@ -21,7 +21,7 @@ use Rattle.cubemap.specs.Rotations.{sumOfSquares, row1, row2, row3, dot,
 use Rattle.cubemap.proofs.FaceCoordinates.{Coordinates}
 use Rattle.cubemap.proofs.Rotations.{ray-eq, rayE, dotE, LeadsTo, sizeSquared, rotated-size, column1, column2, column3}
 use Rattle.cubemap.proofs.Rotations.{inverse, inverse-inverse, sum-inverse, Transposed, transposed}
-use Rattle.cubemap.proofs.CubeRays.{Inner, Outer, CubeRay, alongX, alongY, alongZ, inner-neg, outer-neg}
+use Rattle.cubemap.proofs.CubeRays.{Inner, CubeRay, alongX, alongY, alongZ, inner-neg}
 
 -- ---- signed permutations of the axes
 
@@ -56,14 +56,14 @@ permuted p v =
 
 -- ---- a permutation takes rays of places to rays of places
 
+signed-flipped : (b : Bool) {x : ℤ} {n : ℕ} → Signed x n → Signed (flipped b x) n
+signed-flipped true i = signed-neg i
+signed-flipped false i = i
+
 module _ (format : Format) (A : ℕ) (c : Coordinates format A) where
   inner-flipped : (b : Bool) {x : ℤ} → Inner format A x → Inner format A (flipped b x)
   inner-flipped true i = inner-neg format A c i
   inner-flipped false i = i
-
-  outer-flipped : (b : Bool) {x : ℤ} → Outer format A x → Outer format A (flipped b x)
-  outer-flipped true i = outer-neg format A c i
-  outer-flipped false i = i
 
   cube-in-order : (o : Order) (v : Ray) → CubeRay format A v → CubeRay format A (inOrder o v)
   cube-in-order xyz v (alongX x y z) = alongX x y z
@@ -90,9 +90,9 @@ module _ (format : Format) (A : ℕ) (c : Coordinates format A) where
   cube-permuted p v r = go (cube-in-order (p .order) v r)
     where
       go : {w : Ray} → CubeRay format A w → CubeRay format A (ray (flipped (p .flipX) (w .x)) (flipped (p .flipY) (w .y)) (flipped (p .flipZ) (w .z)))
-      go (alongX x y z) = alongX (outer-flipped (p .flipX) x) (inner-flipped (p .flipY) y) (inner-flipped (p .flipZ) z)
-      go (alongY x y z) = alongY (inner-flipped (p .flipX) x) (outer-flipped (p .flipY) y) (inner-flipped (p .flipZ) z)
-      go (alongZ x y z) = alongZ (inner-flipped (p .flipX) x) (inner-flipped (p .flipY) y) (outer-flipped (p .flipZ) z)
+      go (alongX x y z) = alongX (signed-flipped (p .flipX) x) (inner-flipped (p .flipY) y) (inner-flipped (p .flipZ) z)
+      go (alongY x y z) = alongY (inner-flipped (p .flipX) x) (signed-flipped (p .flipY) y) (inner-flipped (p .flipZ) z)
+      go (alongZ x y z) = alongZ (inner-flipped (p .flipX) x) (inner-flipped (p .flipY) y) (signed-flipped (p .flipZ) z)
 
 -- ---- the nine entries
 
@@ -221,9 +221,6 @@ data Line (S : ℕ) (r : Ray) : Type 0 where
   inY : natAbs (r .y) ≡ S → Picks S r (λ v. v .y) → Line S r
   inZ : natAbs (r .z) ≡ S → Picks S r (λ v. v .z) → Line S r
 
-square-of : (n : ℕ) (x : ℤ) → natAbs x ≡ n → natAbs x * natAbs x ≡ n * n
-square-of n x p = rw p
-
 line : (S : ℕ) (r : Ray) → 0 < S → Entries S r → sizeSquared r ≡ S * S → Line S r
 line S r h e n = go (e .first) (e .second) (e .third)
   where
@@ -240,10 +237,10 @@ line S r h e n = go (e .first) (e .second) (e .third)
     go (full p) (none q) (none s) = inX p (picks S r (r .x) (λ v. v .x) p (λ v. only-x v (natAbs-zero (r .y) q) (natAbs-zero (r .z) s)))
     go (none p) (full q) (none s) = inY q (picks S r (r .y) (λ v. v .y) q (λ v. only-y v (natAbs-zero (r .x) p) (natAbs-zero (r .z) s)))
     go (none p) (none q) (full s) = inZ s (picks S r (r .z) (λ v. v .z) s (λ v. only-z v (natAbs-zero (r .x) p) (natAbs-zero (r .y) q)))
-    go (none p) (none q) (none s) = absurd (omega (arith, mul-pos h h, square-of 0 (r .x) p, square-of 0 (r .y) q, square-of 0 (r .z) s))
-    go (full p) (full q) s = absurd (omega (arith, mul-pos h h, square-of S (r .x) p, square-of S (r .y) q))
-    go (full p) (none q) (full s) = absurd (omega (arith, mul-pos h h, square-of S (r .x) p, square-of S (r .z) s))
-    go (none p) (full q) (full s) = absurd (omega (arith, mul-pos h h, square-of S (r .y) q, square-of S (r .z) s))
+    go (none p) (none q) (none s) = absurd (omega (arith, mul-pos h h, square-of p, square-of q, square-of s))
+    go (full p) (full q) s = absurd (omega (arith, mul-pos h h, square-of p, square-of q))
+    go (full p) (none q) (full s) = absurd (omega (arith, mul-pos h h, square-of p, square-of s))
+    go (none p) (full q) (full s) = absurd (omega (arith, mul-pos h h, square-of q, square-of s))
 
 -- ---- the law
 
@@ -270,7 +267,7 @@ module _ (t : Rotation) (h : 0 < sumOfSquares t) (w : CubeMatrix t) where
 
   -- two entries of size S do not fit into one column of length S
   clash : (x y : ℤ) → natAbs x * natAbs x + natAbs y * natAbs y ≤ S * S → natAbs x ≡ S → natAbs y ≡ S → ⊥
-  clash x y l p q = absurd (omega (arith, mul-pos h h, square-of S x p, square-of S y q))
+  clash x y l p q = absurd (omega (arith, mul-pos h h, square-of p, square-of q))
 
   -- so the three rows have their entries in three columns, in one of six orders
   pub matrix-permutes : Permutes t

@@ -12,7 +12,7 @@ use lib.IntN.{ℤ, pos, negsuc, negℤ, natAbs, _*ℤ_, negℤ-negℤ}
 use Rattle.arithmetic.specs.Integers.{isPositive, isNegative}
 use Rattle.arithmetic.proofs.Tests.{fails, and-left, and-right, and-both, cond-both}
 use Rattle.arithmetic.proofs.Integers.{mul-neg}
-use Rattle.arithmetic.proofs.Sizes.{natAbs-neg, natAbs-mul, positive-size, negative-size, positive-is, negative-is, no-sign}
+use Rattle.arithmetic.proofs.Sizes.{natAbs-neg, neg-small, natAbs-mul, positive-size, negative-size, positive-is, negative-is, no-sign}
 use Rattle.arithmetic.proofs.Sizes.{positive-pos, positive-neg, positive-times, negative-times}
 use Rattle.cubemap.specs.declared.Format.{Format}
 use Rattle.cubemap.specs.declared.Place.{Place}
@@ -188,17 +188,14 @@ some-largest a b c f g h = go (decLt a b) (decLt a c) (decLt b c)
     go (yes x) y (no z) = g (omega arith) (omega arith)
     go (yes x) y (yes z) = h (omega arith) (omega arith)
 
-neg-small : (z : ℤ) (n : ℕ) → natAbs z ≤ n → natAbs (negℤ z) ≤ n
-neg-small z n h = subst (λ m. m ≤ n) (sym (natAbs-neg z)) h
-
 module _ (r : Ray) where
   faced0 : Row (r .x) (r .y) (r .z) (isPositive (r .x)) → Faced r 0
   unfolding chosenSize across down table3
   faced0 w = record {
     face-ok = omega arith;
     nonzero = positive-size (r .x) (w .has-sign);
-    across-ok = neg-small (r .z) (natAbs (r .x)) (w .third);
-    down-ok = neg-small (r .y) (natAbs (r .x)) (w .second);
+    across-ok = neg-small (r .z) (w .third);
+    down-ok = neg-small (r .y) (w .second);
     undone = λ i. ray (sym (positive-is (r .x) (w .has-sign)) i) (negℤ-negℤ (r .y) i) (negℤ-negℤ (r .z) i);
   }
 
@@ -208,7 +205,7 @@ module _ (r : Ray) where
     face-ok = omega arith;
     nonzero = negative-size (r .x) (w .has-sign);
     across-ok = w .third;
-    down-ok = neg-small (r .y) (natAbs (r .x)) (w .second);
+    down-ok = neg-small (r .y) (w .second);
     undone = λ i. ray (sym (negative-is (r .x) (w .has-sign)) i) (negℤ-negℤ (r .y) i) (r .z);
   }
 
@@ -228,7 +225,7 @@ module _ (r : Ray) where
     face-ok = omega arith;
     nonzero = negative-size (r .y) (w .has-sign);
     across-ok = w .second;
-    down-ok = neg-small (r .z) (natAbs (r .y)) (w .third);
+    down-ok = neg-small (r .z) (w .third);
     undone = λ i. ray (r .x) (sym (negative-is (r .y) (w .has-sign)) i) (negℤ-negℤ (r .z) i);
   }
 
@@ -238,7 +235,7 @@ module _ (r : Ray) where
     face-ok = omega arith;
     nonzero = positive-size (r .z) (w .has-sign);
     across-ok = w .second;
-    down-ok = neg-small (r .y) (natAbs (r .z)) (w .third);
+    down-ok = neg-small (r .y) (w .third);
     undone = λ i. ray (r .x) (negℤ-negℤ (r .y) i) (sym (positive-is (r .z) (w .has-sign)) i);
   }
 
@@ -247,8 +244,8 @@ module _ (r : Ray) where
   faced5 w = record {
     face-ok = omega arith;
     nonzero = negative-size (r .z) (w .has-sign);
-    across-ok = neg-small (r .x) (natAbs (r .z)) (w .second);
-    down-ok = neg-small (r .y) (natAbs (r .z)) (w .third);
+    across-ok = neg-small (r .x) (w .second);
+    down-ok = neg-small (r .y) (w .third);
     undone = λ i. ray (negℤ-negℤ (r .x) i) (negℤ-negℤ (r .y) i) (sym (negative-is (r .z) (w .has-sign)) i);
   }
 

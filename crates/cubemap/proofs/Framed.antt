@@ -1,14 +1,14 @@
 -- A sample of `framed` is what was framed; a frame whose bytes are given place by place; and which frames pass checks 8 to 11.
 use mathlib.Core.Path.{_≡_, refl, sym, _∙_, ap, ap₂, subst}
 use mathlib.Core.Bool.{false, not}
-use mathlib.Core.List.{List, [], _∷_, _++_}
+use mathlib.Core.List.{List, [], _++_}
 use Prim.Native.Nat.{ℕ, zero, suc, _+_, _*_, _^_, _<_}
 use native.Mathlib.Decide.{ℕ-discrete}
 use native.Mathlib.Nat.{le-refl}
 use native.Mathlib.Omega.{arith}
 use lib.Dec.{T, T-not, eqb, eqb→eq, eqb-refl, ltb→lt, lt→ltb}
 use lib.ListN.{length, length-append, take, drop, getD, List·getD-append}
-use lib.Seq.{getD-take, getD-drop}
+use lib.Seq.{getD-take, getD-drop, getD-append-add}
 use Rattle.arithmetic.specs.Searches.{lowest, allBelow}
 use Rattle.arithmetic.proofs.Searches.{all-at, all-of, all-cong, Lowest, not-all, lowest-none, lowest-cong}
 use Rattle.arithmetic.proofs.Tests.{same-test}
@@ -46,9 +46,7 @@ sample-front x y n i e h =
     ap₂ (λ a b. a + 256 * b) (List·getD-append x y 0 (2 * i) (omega arith)) (List·getD-append x y 0 (2 * i + 1) (omega arith))
 
 getD-behind : (x y : List ℕ) (j k : ℕ) → j ≡ length x + k → getD (x ++ y) j 0 ≡ getD y k 0
-getD-behind [] y j k e = ap (λ z. getD y z 0) (omega arith)
-getD-behind (a ∷ x) y zero k e = absurd (omega arith)
-getD-behind (a ∷ x) y (suc j) k e = getD-behind x y j k (omega arith)
+getD-behind x y j k e = ap (λ j. getD (x ++ y) j 0) e ∙ getD-append-add x y k 0
 
 pub sample-behind : (x y : List ℕ) (n i : ℕ) → length x ≡ 2 * n → sampleAt (x ++ y) (n + i) ≡ sampleAt y i
 sample-behind x y n i e =

@@ -1,11 +1,11 @@
 -- What the machine holds of rotations and rays.
-use mathlib.Core.Path.{_≡_, sym, subst}
-use Prim.Native.Nat.{ℕ, _^_, _≤_}
+use mathlib.Core.Path.{_≡_}
+use Prim.Native.Nat.{ℕ, _^_}
 use lib.Dec.{T, ltb}
-use lib.IntN.{ℤ, natAbs}
+use lib.IntN.{ℤ}
 use mir.Syntax.{w64}
 use mir.Val.{ofZ, toZ}
-use Rattle.arithmetic.proofs.Held.{Held, held}
+use Rattle.arithmetic.proofs.Held.{Held, held, read-small}
 use Rattle.cubemap.specs.declared.Ray.{Ray}
 use Rattle.cubemap.specs.declared.Rotation.{Rotation}
 use Rattle.cubemap.specs.PlaceToRay.{ray}
@@ -37,8 +37,5 @@ pub ray-of-held : {B a b c : ℕ} {x y z : ℤ} → Held a x B → Held b y B �
     → (ray (toZ w64 a) (toZ w64 b) (toZ w64 c) ≡ ray x y z) × RayWithin B (ray (toZ w64 a) (toZ w64 b) (toZ w64 c))
 ray-of-held {B} p q r = (
   ray-eq (p .is) (q .is) (r .is),
-  record { x = small p; y = small q; z = small r },
+  record { x = read-small p; y = read-small q; z = read-small r },
 )
-  where
-    small : {n : ℕ} {x : ℤ} → Held n x B → natAbs (toZ w64 n) ≤ B
-    small h = subst (λ z. natAbs z ≤ B) (sym (h .is)) (h .small)

@@ -14,6 +14,7 @@ use Rattle.cubemap.specs.Interface.{Answer, answer, accepted, isAccepted
 use Rattle.cubemap.specs.Checks.{ConvertSettings, ScoreSettings, targetShape, Check, check, firstFailed, between, sizeOK, depthOK, codeOK}
 use Rattle.cubemap.specs.Checks.{layoutOK, rotationInRange, rotationNonzero, lengthOK, samplesOK, rayInRange, rayNonzero}
 use Rattle.cubemap.specs.Checks.{sizeChecks, settingChecks, lengthChecks, beforeSamples, convertChecks, scoreChecks, lookUpChecks}
+use Rattle.cubemap.specs.Outcomes.{convertAnswer}
 
 -- ---- lists of checks
 
@@ -195,9 +196,8 @@ pub record ConvertPassed (s : ConvertSettings) (sourceLength targetLength : ℕ)
   pub target-length : T (lengthOK (targetShape s) targetLength)
   pub samples : T (samplesOK (s .sourceShape) source)
 
-pub convert-passed : (s : ConvertSettings) (n m : ℕ) (source : List ℕ) → T (isAccepted (firstFailed (convertChecks s n m source)))
-    → ConvertPassed s n m source
-unfolding convertChecks beforeSamples sizeChecks settingChecks lengthChecks
+pub convert-passed : (s : ConvertSettings) (n m : ℕ) (source : List ℕ) → T (isAccepted (convertAnswer s n m source)) → ConvertPassed s n m source
+unfolding convertAnswer convertChecks beforeSamples sizeChecks settingChecks lengthChecks
 convert-passed s n m source t = go (all-hold (convertChecks s n m source) tt t)
   where
     go : AllHold (convertChecks s n m source) → ConvertPassed s n m source

@@ -11,8 +11,8 @@ use native.Mathlib.Omega.{arith}
 use lib.IntN.{ℤ, pos, negsuc, negℤ, natAbs, _+ℤ_, _-ℤ_, _*ℤ_, +ℤ-invr, +ℤ-comm}
 use lib.Signed.{_≤ℤ_}
 use Rattle.arithmetic.specs.Integers.{withSignOf, isNegative}
-use Rattle.arithmetic.proofs.Integers.{by-combination, neg-mul}
-use Rattle.arithmetic.proofs.Sizes.{pos-inj, natAbs-mul, natAbs-neg, pos-sub, difference-small, difference-inj, Lifted, lifted, own-sign, sign-size}
+use Rattle.arithmetic.proofs.Integers.{by-combination}
+use Rattle.arithmetic.proofs.Sizes.{pos-inj, natAbs-mul, natAbs-neg, pos-sub, difference-small, difference-inj, Lifted, lifted, own-sign, sign-size, sign-mul}
 use Rattle.arithmetic.proofs.Ring.{Expr, var, con, _⊕_, _⊗_, _⊝_, ⊖, solve}
 use Rattle.arithmetic.proofs.Order.{le-intro, le-elim}
 use Rattle.arithmetic.proofs.Floors.{floor-unique}
@@ -45,11 +45,7 @@ acp d x = x *ℤ (pos (34 * d) -ℤ pos (9 * natAbs x))
 acp-is : (d : ℕ) (p : ℤ) (c : ℕ) → c ≤ d → acp d (withSignOf p c) ≡ withSignOf p (bent d c)
 acp-is d p c h =
     ap (λ m. withSignOf p c *ℤ (pos (34 * d) -ℤ pos (9 * m))) (sign-size p c)
-    ∙ ap (λ z. withSignOf p c *ℤ z) (pos-sub (34 * d) (9 * c) (omega arith)) ∙ signed p
-  where
-    signed : (p : ℤ) → withSignOf p c *ℤ pos (34 * d - 9 * c) ≡ withSignOf p (bent d c)
-    signed (pos n) = refl
-    signed (negsuc n) = neg-mul (pos c) (pos (34 * d - 9 * c))
+    ∙ ap (λ z. withSignOf p c *ℤ z) (pos-sub (34 * d) (9 * c) (omega arith)) ∙ sign-mul p c (34 * d - 9 * c)
 
 acp-size : (x : ℤ) (d : ℕ) → natAbs x ≤ d → natAbs (acp d x) ≡ bent d (natAbs x)
 acp-size x d h =

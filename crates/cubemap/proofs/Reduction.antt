@@ -3,21 +3,18 @@
 use mathlib.Core.Path.{_≡_, refl, sym, _∙_, ap, subst, subst₂}
 use mathlib.Core.Bool.{Bool, true, false, _&&_, _||_, cond, true≢false}
 use mathlib.Core.List.{[], _∷_}
-use Prim.Native.Nat.{ℕ, zero, suc, _+_, _*_, _-_, _/_, _%_, _≤_, _<_, _∣_}
-use native.Mathlib.Nat.{mod-one, mod-eq-of-lt, div-add-mod', lt-of-not-le, mul-comm, mul-pos, mod-lt, dvd-zero, dvd-mul-left, dvd-mul-right}
-use native.Mathlib.Nat.{dvd-mod-iff, dvd-of-mod-eq-zero, mod-eq-zero-of-dvd, le-of-dvd, mul-dvd-mul-left, le-of-mul-le-mul-left}
-use native.Mathlib.Nat.{dvd-trans, div-le-self, le-trans}
+use Prim.Native.Nat.{ℕ, zero, suc, _+_, _*_, _/_, _%_, _≤_, _<_, _∣_}
+use native.Mathlib.Nat.{mod-one, mod-eq-of-lt, lt-of-not-le, le-trans, mul-pos, div-le-self, div-mul-cancel, le-of-mul-le-mul-left}
+use native.Mathlib.Nat.{dvd-of-mod-eq-zero, mod-eq-zero-of-dvd, le-of-dvd, dvd-trans, mul-dvd-mul-left}
 use native.Mathlib.Omega.{arith}
 use lib.Dec.{T, eqb, eqb→eq}
 use borrow.Author.Tests.{eq-eqb, ne-eqb, le-ltb}
-use lib.IntN.{ℤ, pos, negsuc, negℤ, natAbs, _*ℤ_}
+use lib.IntN.{ℤ, pos, negsuc, negℤ, natAbs, _*ℤ_, *ℤ-comm}
 use lib.Signed.{ltZ}
 use Rattle.arithmetic.specs.Integers.{withSignOf, equalℤ}
-use Rattle.arithmetic.specs.Searches.{largest}
-use Rattle.arithmetic.proofs.Tests.{passes, and-left, and-right, All4, and4, all4}
-use Rattle.arithmetic.proofs.Integers.{mul-neg}
-use Rattle.arithmetic.proofs.Sizes.{natAbs-neg, natAbs-mul, own-sign, sign-size, equalℤ→eq, equalℤ-refl}
-use Rattle.arithmetic.proofs.Divisors.{IsGcd, gcd-both-zero, gcd-zeros}
+use Rattle.arithmetic.proofs.Tests.{passes, All4, and4, all4}
+use Rattle.arithmetic.proofs.Sizes.{natAbs-neg, natAbs-mul, own-sign, sign-size, sign-mul, equalℤ→eq, equalℤ-refl}
+use Rattle.arithmetic.proofs.Divisors.{IsGcd, gcd-exists, gcd-both-zero, gcd-zeros}
 use Rattle.arithmetic.proofs.Ring.{var, _⊗_, ⊖, solve}
 use Rattle.arithmetic.proofs.Searches.{IsLargest, largest-is}
 use Rattle.cubemap.specs.declared.Ray.{Ray}
@@ -89,82 +86,6 @@ divisor-most t d h g = divisor-is t .most d (within (lt-of-not-le away)) (divide
         let e = sym (mod-eq-of-lt {n = natAbs (t .e3)} {m = d} (omega arith)) ∙ g .d3 in
         omega arith
 
--- ---- every common divisor divides it
-
--- a common multiple of a and b that divides every other
-record LeastMultiple (a b m : ℕ) : Type 0 where
-  positive : 0 < m
-  left : a ∣ m
-  right : b ∣ m
-  least : (n : ℕ) → a ∣ n → b ∣ n → m ∣ n
-
--- M is the least number above 0 that passes
-record Least (test : ℕ → Bool) (M : ℕ) : Type 0 where
-  positive : 0 < M
-  holds : T (test M)
-  none-below : (d : ℕ) → 0 < d → d < M → T (test d) → ⊥
-
-least : (test : ℕ → Bool) → T (test 0) → (n L : ℕ) → L ≤ n → 0 < L → T (test L) → (M : ℕ) × Least test M
-least test z zero L l h p = absurd (omega arith)
-least test z (suc n) L l h p = go (largest test (L - 1)) (largest-is test (L - 1) 0 (omega arith) z) (least test z n)
-  where
-    go : (m : ℕ) → IsLargest test (L - 1) m → ((L : ℕ) → L ≤ n → 0 < L → T (test L) → (M : ℕ) × Least test M) → (M : ℕ) × Least test M
-    go zero g ih = (L, record { positive = h; holds = p; none-below = λ d a b t. absurd (omega (arith, g .most d (omega arith) t)) })
-    go (suc m) g ih = ih (suc m) (let w = g .bounded in omega arith) (omega arith) (g .holds)
-
-least-multiple : (a b : ℕ) → 0 < a → 0 < b → (m : ℕ) × LeastMultiple a b m
-least-multiple a b ha hb =
-    go (least test (out 0 (dvd-zero a) (dvd-zero b)) (a * b) (a * b) (omega arith) (mul-pos ha hb)
-    (out (a * b) (dvd-mul-right a b) (dvd-mul-left b a)))
-  where
-    test : ℕ → Bool
-    test n = eqb (n % a) 0 && eqb (n % b) 0
-
-    out : (n : ℕ) → a ∣ n → b ∣ n → T (test n)
-    out n p q = passes (λ i. eq-eqb (n % a) 0 (mod-eq-zero-of-dvd a p) i && eq-eqb (n % b) 0 (mod-eq-zero-of-dvd b q) i)
-
-    in-left : (n : ℕ) → T (test n) → a ∣ n
-    in-left n t = dvd-of-mod-eq-zero a (eqb→eq (n % a) 0 (and-left (eqb (n % a) 0) (eqb (n % b) 0) t))
-
-    in-right : (n : ℕ) → T (test n) → b ∣ n
-    in-right n t = dvd-of-mod-eq-zero b (eqb→eq (n % b) 0 (and-right (eqb (n % a) 0) (eqb (n % b) 0) t))
-
-    go : (M : ℕ) × Least test M → (m : ℕ) × LeastMultiple a b m
-    go (M, l) = (
-      M,
-      record {
-        positive = l .positive;
-        left = in-left M (l .holds);
-        right = in-right M (l .holds);
-        least = λ n p q. dvd-of-mod-eq-zero M (none (n % M) (mod-lt n (l .positive))
-            (out (n % M) (dvd-mod-iff a (in-left M (l .holds)) .1 p) (dvd-mod-iff b (in-right M (l .holds)) .1 q)));
-      },
-    )
-      where
-        none : (r : ℕ) → r < M → T (test r) → r ≡ 0
-        none zero m t = refl
-        none (suc r) m t = absurd (l .none-below (suc r) (omega arith) m t)
-
-pub divisor-all : (t : Rotation) (d : ℕ) → 0 < sizes t → 0 < d → Divides t d → d ∣ commonDivisor t
-divisor-all t d h hd g = go (least-multiple d (commonDivisor t) hd (divisor-positive t))
-  where
-    i : Divides t (commonDivisor t)
-    i = divisor-divides t
-
-    go : (m : ℕ) × LeastMultiple d (commonDivisor t) m → d ∣ commonDivisor t
-    go (m, l) =
-        let both : (n : ℕ) → n % d ≡ 0 → n % commonDivisor t ≡ 0 → n % m ≡ 0 =
-        λ n p q. mod-eq-zero-of-dvd m (l .least n (dvd-of-mod-eq-zero d p) (dvd-of-mod-eq-zero (commonDivisor t) q)) in
-        let x : m ≤ commonDivisor t = divisor-most t m h (record {
-          d0 = both (natAbs (t .e0)) (g .d0) (i .d0);
-          d1 = both (natAbs (t .e1)) (g .d1) (i .d1);
-          d2 = both (natAbs (t .e2)) (g .d2) (i .d2);
-          d3 = both (natAbs (t .e3)) (g .d3) (i .d3);
-        }) in
-        let y : commonDivisor t ≤ m = le-of-dvd (l .positive) (l .right) in
-        let e : m ≡ commonDivisor t = omega arith in
-        subst (λ n. d ∣ n) e (l .left)
-
 -- ---- the divisor by pairs: of the first two numbers, of the last two, and of these two
 
 module _ (t : Rotation) (g01 g23 g : ℕ) (x : IsGcd (natAbs (t .e0)) (natAbs (t .e1)) g01) (y : IsGcd (natAbs (t .e2)) (natAbs (t .e3)) g23)
@@ -177,48 +98,52 @@ module _ (t : Rotation) (g01 g23 g : ℕ) (x : IsGcd (natAbs (t .e0)) (natAbs (t
     d3 = mod-eq-zero-of-dvd g (dvd-trans g (z .right) (y .right));
   }
 
+  greatest-by-pairs : (d : ℕ) → Divides t d → d ∣ g
+  greatest-by-pairs d w = z .greatest d
+      (x .greatest d (dvd-of-mod-eq-zero d (w .d0)) (dvd-of-mod-eq-zero d (w .d1)))
+      (y .greatest d (dvd-of-mod-eq-zero d (w .d2)) (dvd-of-mod-eq-zero d (w .d3)))
+
+  -- it is 0 only where all four numbers are
+  none-by-pairs : g ≡ 0 → sizes t ≡ 0
+  none-by-pairs e =
+      let pairs = gcd-both-zero (subst (λ n. IsGcd g01 g23 n) e z) in
+      let front = gcd-both-zero (subst (λ n. IsGcd (natAbs (t .e0)) (natAbs (t .e1)) n) (pairs .0) x) in
+      let back = gcd-both-zero (subst (λ n. IsGcd (natAbs (t .e2)) (natAbs (t .e3)) n) (pairs .1) y) in
+      omega arith
+
   pub divisor-by-pairs : 0 < g → commonDivisor t ≡ g
   divisor-by-pairs h = go (sizes t) refl
     where
-      d : ℕ
-      d = commonDivisor t
-
-      w : Divides t d
-      w = divisor-divides t
-
-      greatest : d ∣ g
-      greatest = z .greatest d
-          (x .greatest d (dvd-of-mod-eq-zero d (w .d0)) (dvd-of-mod-eq-zero d (w .d1)))
-          (y .greatest d (dvd-of-mod-eq-zero d (w .d2)) (dvd-of-mod-eq-zero d (w .d3)))
-
       zeros : (a b n : ℕ) → a ≡ 0 → b ≡ 0 → IsGcd a b n → n ≡ 0
       zeros a b n p q r = gcd-zeros n (subst₂ (λ k m. IsGcd k m n) p q r)
 
-      go : (n : ℕ) → sizes t ≡ n → d ≡ g
+      go : (n : ℕ) → sizes t ≡ n → commonDivisor t ≡ g
       go zero e =
           let l : g01 ≡ 0 = zeros (natAbs (t .e0)) (natAbs (t .e1)) g01 (omega arith) (omega arith) x in
           let r : g23 ≡ 0 = zeros (natAbs (t .e2)) (natAbs (t .e3)) g23 (omega arith) (omega arith) y in
           absurd (omega (arith, zeros g01 g23 g l r z))
       go (suc n) e =
-          let up : g ≤ d = divisor-most t g (omega arith) by-pairs in
-          let down : d ≤ g = le-of-dvd h greatest in
+          let up : g ≤ commonDivisor t = divisor-most t g (omega arith) by-pairs in
+          let down : commonDivisor t ≤ g = le-of-dvd h (greatest-by-pairs (commonDivisor t) (divisor-divides t)) in
           omega arith
 
   -- where all four numbers are 0, the divisor is 1
   pub divisor-of-zeros : g ≡ 0 → commonDivisor t ≡ 1
-  divisor-of-zeros e = only (commonDivisor t) (divisor-is t .bounded) (divisor-positive t)
+  divisor-of-zeros e = omega (arith, none-by-pairs e, divisor-is t .bounded, divisor-positive t)
+
+  all-by-pairs : (d : ℕ) → 0 < sizes t → Divides t d → d ∣ commonDivisor t
+  all-by-pairs d h w = subst (λ n. d ∣ n) (sym (divisor-by-pairs some)) (greatest-by-pairs d w)
     where
-      pairs : (g01 ≡ 0) × (g23 ≡ 0)
-      pairs = gcd-both-zero (subst (λ n. IsGcd g01 g23 n) e z)
+      some : 0 < g
+      some = lt-of-not-le (λ (l : g ≤ 0). absurd (omega (arith, none-by-pairs (omega arith))))
 
-      front : (natAbs (t .e0) ≡ 0) × (natAbs (t .e1) ≡ 0)
-      front = gcd-both-zero (subst (λ n. IsGcd (natAbs (t .e0)) (natAbs (t .e1)) n) (pairs .0) x)
-
-      back : (natAbs (t .e2) ≡ 0) × (natAbs (t .e3) ≡ 0)
-      back = gcd-both-zero (subst (λ n. IsGcd (natAbs (t .e2)) (natAbs (t .e3)) n) (pairs .1) y)
-
-      only : (d : ℕ) → d ≤ suc (sizes t) → 0 < d → d ≡ 1
-      only d b p = let f = front in let k = back in omega arith
+-- every common divisor divides it
+pub divisor-all : (t : Rotation) (d : ℕ) → 0 < sizes t → Divides t d → d ∣ commonDivisor t
+divisor-all t d h w =
+    let x = gcd-exists (natAbs (t .e0)) (natAbs (t .e1)) in
+    let y = gcd-exists (natAbs (t .e2)) (natAbs (t .e3)) in
+    let z = gcd-exists (x .0) (y .0) in
+    all-by-pairs t (x .0) (y .0) (z .0) (x .1) (y .1) (z .1) d h w
 
 -- ---- a rotation is a multiple of what it is reduced to
 
@@ -229,17 +154,8 @@ pub record Multiple (t u : Rotation) : Type 0 where
 
 -- d times x / d, where d divides x
 times-divided : (x : ℤ) (d : ℕ) → natAbs x % d ≡ 0 → x ≡ pos d *ℤ dividedBy d x
-times-divided x d h = sym (own-sign x) ∙ ap (withSignOf x) (sym whole) ∙ sym (signed x (natAbs x / d))
-  where
-    exact : (a r n : ℕ) → r ≡ 0 → a + r ≡ n → a ≡ n
-    exact a r n p q = omega arith
-
-    whole : d * (natAbs x / d) ≡ natAbs x
-    whole = mul-comm d (natAbs x / d) ∙ exact (natAbs x / d * d) (natAbs x % d) (natAbs x) h (div-add-mod' (natAbs x) d)
-
-    signed : (x : ℤ) (c : ℕ) → pos d *ℤ withSignOf x c ≡ withSignOf x (d * c)
-    signed (pos n) c = refl
-    signed (negsuc n) c = mul-neg (pos d) (pos c)
+times-divided x d h = sym (*ℤ-comm (pos d) (dividedBy d x) ∙ sign-mul x (natAbs x / d) d
+    ∙ ap (withSignOf x) (div-mul-cancel d (dvd-of-mod-eq-zero d h)) ∙ own-sign x)
 
 pub divided-multiple : (t : Rotation) → t ≡ multiple (pos (commonDivisor t)) (divided t)
 unfolding divided multiple

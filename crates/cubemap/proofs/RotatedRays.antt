@@ -6,7 +6,7 @@ use native.Mathlib.Nat.{mul-le-mul, mul-pos}
 use native.Mathlib.Omega.{arith}
 use lib.Dec.{T}
 use lib.IntN.{ℤ, pos, negℤ, natAbs, _+ℤ_, _*ℤ_}
-use Rattle.arithmetic.proofs.Sizes.{root-strictly}
+use Rattle.arithmetic.proofs.Sizes.{square-of, root-strictly}
 use Rattle.arithmetic.proofs.Ring.{var, _⊕_, _⊗_, ⊖, solve}
 use Rattle.cubemap.specs.declared.Format.{Format}
 use Rattle.cubemap.specs.declared.Place.{Place}
@@ -30,10 +30,7 @@ size-in-range r h = in-range-ray r (record { x = number (r .x) (omega arith); y 
     number z l = let m = root-strictly (natAbs z) 536870912 l in omega arith
 
 pub size-nonzero : (r : Ray) → 0 < sizeSquared r → T (rayNonzero r)
-size-nonzero r h = nonzero-ray r (λ p q w. absurd (omega (arith, square (r .x) p, square (r .y) q, square (r .z) w)))
-  where
-    square : (z : ℤ) → natAbs z ≡ 0 → natAbs z * natAbs z ≡ 0
-    square z e = rw e
+size-nonzero r h = nonzero-ray r (λ p q w. absurd (omega (arith, square-of p, square-of q, square-of w)))
 
 -- ---- the rays of places
 

@@ -16,13 +16,13 @@ use Rattle.cubemap.specs.Checks.{ConvertSettings, targetShape}
 use Rattle.cubemap.specs.Outcomes.{convertedSample, convertedBytes}
 use Rattle.cubemap.specs.Promises.{ConvertCall, ConvertPromise}
 use Rattle.cubemap.proofs.Answers.{returned-0}
-use Rattle.cubemap.proofs.Passed.{size-range, ConvertPassed}
+use Rattle.cubemap.proofs.Passed.{size-range, ConvertPassed, convert-passed}
 use Rattle.cubemap.proofs.ConvertChecks.{answer-accepted, answer-of-part, outcome-is}
 use Rattle.cubemap.proofs.Layouts.{layout-holds}
 use Rattle.cubemap.proofs.Framed.{planeOf, planeOf-cong}
 use Rattle.cubemap.proofs.Rotations.{LeadsTo, sum-positive}
 use Rattle.cubemap.proofs.CubeRotations.{cube-matrix}
-use Rattle.cubemap.proofs.Conversion.{converted-frame, accepted-passed, converted-own}
+use Rattle.cubemap.proofs.Conversion.{converted-frame, converted-own}
 use Rattle.sequences.specs.Steps.{rayIn, Leads, ledTo}
 use Rattle.sequences.specs.Model.{told, answerTo, accepts, Model, movedFrame, afterAccepted, afterCall}
 use Rattle.sequences.specs.Runs.{leftBy, Each, Reads, OwnCubeTurn, AcceptedAreOwn, Keeping}
@@ -90,7 +90,7 @@ module _ (F : Frame) (c : ConvertCall) (f : Fair F c) (ok : T (accepts (told c) 
 
   passed : ConvertPassed (c .settings) (length (F .bytes)) (length (c .target)) (F .bytes)
   passed = subst (λ b. ConvertPassed (c .settings) (length b) (length (c .target)) b) read
-      (accepted-passed s (length (c .source)) (length (c .target)) (c .source) ok)
+      (convert-passed s (length (c .source)) (length (c .target)) (c .source) ok)
 
   -- the step
   sum : 0 < sumOfSquares (c .settings .rotation)

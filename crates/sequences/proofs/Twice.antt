@@ -13,8 +13,7 @@ use Rattle.cubemap.specs.Rotations.{composeAll, CubeRotation}
 use Rattle.cubemap.specs.Checks.{convertSettings, targetShape}
 use Rattle.cubemap.specs.Promises.{ConvertCall, ConvertPromise}
 use Rattle.cubemap.proofs.Answers.{returned-0}
-use Rattle.cubemap.proofs.Passed.{size-range}
-use Rattle.cubemap.proofs.Conversion.{accepted-passed}
+use Rattle.cubemap.proofs.Passed.{size-range, convert-passed}
 use Rattle.sequences.specs.declared.Codes.{Codes}
 use Rattle.sequences.specs.Model.{told, toldAll, answerTo, accepts, Model, atStart, afterCall, acceptedRotations}
 use Rattle.sequences.specs.Runs.{leftBy, lastFrame, Each, OwnCubeTurn, Keeping}
@@ -108,7 +107,7 @@ module _ (z : Shape) (sampler : ℕ) (L : List ℕ) (t u : Rotation) (source mid
           after = afterCall (atStart (frameOf z L source)) (told call1)
 
       size : z .size ≤ 512
-      size = size-range (z .size) (accepted-passed (call1 .settings) (length source) (length middle) source accepts1 .source-size) .at-most
+      size = size-range (z .size) (convert-passed (call1 .settings) (length source) (length middle) source accepts1 .source-size) .at-most
 
       moved : Moved F (frameOf z L targetAfter) (composeAll (t ∷ u ∷ []))
       moved = subst (λ G. Moved F G (composeAll (t ∷ u ∷ []))) last

@@ -3,11 +3,11 @@ use mathlib.Core.Path.{_≡_, sym, _∙_, ap}
 use Prim.Native.Nat.{ℕ}
 use native.Mathlib.Omega.{arith}
 use lib.IntN.{ℤ, pos, natAbs}
+use lib.Signed.{pos-natAbs}
 use mir.Syntax.{w64}
 use mir.Val.{toZ, ofZ}
 use mir.Facts.{toZ-ofZ}
 use borrow.Author.Needs.{needs}
-use Rattle.arithmetic.proofs.Sizes.{natAbs-pos}
 use Rattle.arithmetic.proofs.Held.{read-sign, cast-not-below}
 use Rattle.cubemap.specs.Samplers.{clip}
 use Rattle.cubemap.proofs.Taps.{clip-inside, clip-negative, clip-beyond}
@@ -26,7 +26,7 @@ module _ (c : tie.Else1) where
   read = toZ w64 (ofZ w64 z)
 
   is : z ≡ pos (natAbs read)
-  is = sym (toZ-ofZ (c .before .fits .z)) ∙ natAbs-pos read (cast-not-below z (c .before .fits .z) (c .if1 .left) .0)
+  is = sym (toZ-ofZ (c .before .fits .z)) ∙ sym (pos-natAbs read (cast-not-below z (c .before .fits .z) (c .if1 .left) .0))
 
 returns : tie.Need-returns
 returns c =
