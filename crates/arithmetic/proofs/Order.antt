@@ -2,12 +2,12 @@
 use mathlib.Core.Path.{_≡_, refl, sym, _∙_, ap, subst}
 use mathlib.Core.List.{[], _∷_}
 use mathlib.Core.Bool.{Bool, true, false, cond}
-use Prim.Native.Nat.{ℕ, suc, _+_, _-_, _<_}
+use Prim.Native.Nat.{ℕ, suc, _+_, _-_, _≤_, _<_}
 use native.Mathlib.Omega.{arith}
 use lib.Dec.{T, leb→le, le→leb, ltb, ltb→lt, lt→ltb}
-use lib.IntN.{ℤ, pos, negsuc, _+ℤ_}
+use lib.IntN.{ℤ, pos, negsuc, _+ℤ_, _-ℤ_}
 use lib.Signed.{_≤ℤ_, _<ℤ_, leZ, ltZ}
-use Rattle.arithmetic.proofs.Ring.{var, _⊕_, ⊖, solve}
+use Rattle.arithmetic.proofs.Ring.{var, _⊕_, _⊝_, ⊖, solve}
 use Rattle.arithmetic.proofs.Sizes.{neg-above}
 
 above : (a : ℤ) (n : ℕ) → T (leZ a (a +ℤ pos n))
@@ -51,3 +51,15 @@ lt-elim a b h = step a b (h .lt)
         let e : b + suc a ≡ suc (b + a) = omega arith in
         (b + a, solve (pos (suc a) ∷ pos b ∷ []) (var 1) (⊖ (var 0) ⊕ (var 1 ⊕ var 0)) tt ∙ ap (λ m. negsuc a +ℤ pos m) e)
     step (negsuc a) (negsuc b) t = let h = ltb→lt b a t in (a - suc b, neg-above b (suc (a - suc b)) (suc a) (omega arith))
+
+-- ---- differences from one number are in the order of what they are taken from
+
+further : (a b n k : ℕ) → b ≡ a + n → pos b -ℤ pos k ≡ pos a -ℤ pos k +ℤ pos n
+further a b n k e =
+    ap (λ m. pos m -ℤ pos k) e ∙ solve (pos a ∷ pos n ∷ pos k ∷ []) (var 0 ⊕ var 1 ⊝ var 2) (var 0 ⊝ var 2 ⊕ var 1) tt
+
+pub difference-le : (a b k : ℕ) → a ≤ b → (pos a -ℤ pos k) ≤ℤ (pos b -ℤ pos k)
+difference-le a b k h = le-intro (pos a -ℤ pos k) (pos b -ℤ pos k) (b - a) (further a b (b - a) k (omega arith))
+
+pub difference-lt : (a b k : ℕ) → a < b → (pos a -ℤ pos k) <ℤ (pos b -ℤ pos k)
+difference-lt a b k h = lt-intro (pos a -ℤ pos k) (pos b -ℤ pos k) (b - suc a) (further a b (suc (b - suc a)) k (omega arith))

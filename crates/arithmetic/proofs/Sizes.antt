@@ -170,14 +170,6 @@ sign-neg f e (pos zero) = rw e
 sign-neg f e (pos (suc n)) = refl
 sign-neg f e (negsuc n) = sym (negℤ-negℤ (pos (f (suc n))))
 
--- numbers of one size that get one value, where only 0 has the value 0
-pub sign-apart : (f : ℕ → ℕ) (x y : ℤ) → (f (natAbs x) ≡ 0 → natAbs x ≡ 0) → natAbs x ≡ natAbs y
-    → withSignOf x (f (natAbs x)) ≡ withSignOf y (f (natAbs y)) → x ≡ y
-sign-apart f (pos a) (pos b) z e h = ap pos e
-sign-apart f (pos a) (negsuc b) z e h = absurd (omega (arith, z (ap f e ∙ pos-neg (f a) (f (suc b)) h)))
-sign-apart f (negsuc a) (pos b) z e h = absurd (omega (arith, z (pos-neg (f b) (f (suc a)) (sym h))))
-sign-apart f (negsuc a) (negsuc b) z e h = ap negsuc (omega arith)
-
 pub positive-size : (z : ℤ) → T (isPositive z) → 0 < natAbs z
 positive-size (pos zero) t = absurd t
 positive-size (pos (suc n)) t = omega arith

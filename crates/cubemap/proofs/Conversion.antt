@@ -21,14 +21,14 @@ use Rattle.cubemap.specs.Checks.{ConvertSettings, targetShape, samplesOK
 use Rattle.cubemap.specs.Outcomes.{result, ifAccepted, lookUpValues, lookUpResult}
 use Rattle.cubemap.specs.Outcomes.{sourcePosition, valueAt, convertedSample, convertedBytes}
 use Rattle.cubemap.proofs.FaceCoordinates.{Coordinates, coordinates}
-use Rattle.cubemap.proofs.Locate.{OnFace, locate-on-face, locate-times, middleOf, locate-own-times}
+use Rattle.cubemap.proofs.Locate.{OnFace, locate-on-face, locate-times, middleOf, locate-own-times, ray-apart}
 use Rattle.cubemap.proofs.Layouts.{LayoutHolds, layout-holds}
 use Rattle.cubemap.proofs.Framed.{plane-bytes, planeOf, place-below}
 use Rattle.cubemap.proofs.Passed.{size-range, ConvertPassed, look-up-accepted}
 use Rattle.cubemap.proofs.Samplers.{value-within, value-own}
 use Rattle.cubemap.proofs.Rotations.{sum-positive, multiple, rotated-multiple, LeadsTo, leads-only}
 use Rattle.cubemap.proofs.RotatedRays.{RotatedRay, rotated-ray, place-ray}
-use Rattle.cubemap.proofs.CubeRays.{PlaceOf, ray-apart, ray-cube, cube-place}
+use Rattle.cubemap.proofs.CubeRays.{PlaceOf, ray-cube, cube-place}
 use Rattle.cubemap.proofs.CubeRotations.{permuted, cube-permuted, CubeMatrix, Permutes, matrix-permutes}
 
 -- ---- a nonzero multiple of a rotation leads to the same positions
@@ -139,7 +139,7 @@ matrix-step z t P a h w p = record { to = q .place; ok = q .ok; leads = m .leads
 pub led-only : (z : Shape) (t : Rotation) (P Q R : Place) → z .size ≤ 512 → 0 < sumOfSquares t → IsPlace (z .size) Q → IsPlace (z .size) R
     → LeadsTo t (rayIn z P) (rayIn z Q) → LeadsTo t (rayIn z P) (rayIn z R) → Q ≡ R
 led-only z t P Q R a h q r e f =
-    ray-apart (formatOf (z .format)) (z .size) (coordinates (formatOf (z .format)) (z .size) a) Q R q r
+    ray-apart (formatOf (z .format)) (z .size) Q R a q r
     (leads-only t (rayIn z P) (rayIn z Q) (rayIn z R) h e f)
 
 -- where a rotation leads to the place Q, the position that is read is its middle

@@ -1,19 +1,15 @@
--- Which triples of whole numbers are rays of places: one number is plus or minus the scale, the two others are numbers of columns. No two
--- places share a ray.
-use mathlib.Core.Path.{_≡_, refl, sym, _∙_, ap, ap₂}
+-- Which triples of whole numbers are rays of places: one number is plus or minus the scale, the two others are numbers of columns.
+use mathlib.Core.Path.{_≡_, refl, sym, _∙_, ap}
 use Prim.Native.Nat.{ℕ, zero, suc, _-_, _<_}
 use native.Mathlib.Omega.{arith}
-use lib.IntN.{ℤ, pos, negℤ, negℤ-negℤ}
+use lib.IntN.{ℤ, negℤ, negℤ-negℤ}
 use Rattle.arithmetic.proofs.Sizes.{Signed, plus, minus}
 use Rattle.cubemap.specs.declared.Format.{Format}
 use Rattle.cubemap.specs.declared.Place.{Place}
 use Rattle.cubemap.specs.declared.Ray.{Ray}
 use Rattle.cubemap.specs.Frames.{place, IsPlace}
 use Rattle.cubemap.specs.PlaceToRay.{ray, scale, faceCoordinate, table3, rayOf}
-use Rattle.cubemap.specs.RayToPlace.{faceOf, across, down}
-use Rattle.cubemap.proofs.Indices.{place-eq}
 use Rattle.cubemap.proofs.FaceCoordinates.{Coordinates}
-use Rattle.cubemap.proofs.Faces.{across-table3, down-table3, faceOf-table3}
 use Rattle.cubemap.proofs.Rotations.{ray-eq}
 
 -- the number of a column
@@ -32,34 +28,6 @@ flip : {x y : ℤ} → negℤ x ≡ y → negℤ y ≡ x
 flip {x} e = sym (ap negℤ e) ∙ negℤ-negℤ x
 
 module _ (format : Format) (A : ℕ) (c : Coordinates format A) where
-  -- no two places have the same ray
-  pub ray-apart : (P Q : Place) → IsPlace A P → IsPlace A Q → rayOf format A P ≡ rayOf format A Q → P ≡ Q
-  unfolding rayOf
-  ray-apart P Q p q e = place-eq
-      faces
-      (c .apart (P .column) (Q .column) (p .column-ok) (q .column-ok) (sym (column P) ∙ ap₂ across faces e ∙ column Q))
-      (c .apart (P .row) (Q .row) (p .row-ok) (q .row-ok) (sym (row P) ∙ ap₂ down faces e ∙ row Q))
-    where
-      a : ℕ → ℤ
-      a m = faceCoordinate format A m
-
-      s : ℕ
-      s = scale format A
-
-      face : (R : Place) → IsPlace A R → faceOf (rayOf format A R) ≡ R .face
-      face R r =
-          faceOf-table3 (R .face) s (a (R .column)) (a (R .row)) (r .face-ok) (c .inside (R .column) (r .column-ok))
-          (c .inside (R .row) (r .row-ok))
-
-      faces : P .face ≡ Q .face
-      faces = sym (face P p) ∙ ap faceOf e ∙ face Q q
-
-      column : (R : Place) → across (R .face) (rayOf format A R) ≡ a (R .column)
-      column R = across-table3 (R .face) (pos s) (a (R .column)) (a (R .row))
-
-      row : (R : Place) → down (R .face) (rayOf format A R) ≡ a (R .row)
-      row R = down-table3 (R .face) (pos s) (a (R .column)) (a (R .row))
-
   inner : (m : ℕ) → m < A → Inner format A (faceCoordinate format A m)
   inner m h = record { at = m; at-ok = h; is = refl }
 

@@ -6,7 +6,6 @@ use Prim.Native.Nat.{ℕ, zero, suc, _+_, _*_, _-_, _≤_, _<_}
 use native.Mathlib.Nat.{mul-comm, mul-le-mul-left, mul-le-mul-right, mul-lt-mul-of-pos-left, mul-pos, mul-sub, zero-lt-suc, add-zero, add-suc}
 use native.Mathlib.Nat.{le-of-suc-le-suc, lt-of-not-le, le-of-eq, le-trans, lt-of-lt-of-le, not-le-of-lt}
 use native.Mathlib.Omega.{arith}
-use native.Mathlib.Decide.{decLt}
 use lib.Dec.{leb, leb→le, le→leb}
 use lib.IntN.{pos}
 use Rattle.arithmetic.proofs.Sizes.{pos-inj}
@@ -160,14 +159,6 @@ curve-increases A j k a l h = subst (λ n. curve A j < curve A n) there (steps (
     steps : (d : ℕ) → j + d < A → curve A j < curve A (suc (j + d))
     steps zero m = rw (add-zero j) (curve-step A j a (omega arith))
     steps (suc d) m = omega (arith, steps d (omega arith), curve-step A (j + suc d) a m, ap (curve A) (add-suc j d))
-
-pub curve-apart : (A j k : ℕ) → A ≤ 512 → j < A → k < A → curve A j ≡ curve A k → j ≡ k
-curve-apart A j k a p q e = go (decLt j k) (decLt k j)
-  where
-    go : Dec (j < k) → Dec (k < j) → j ≡ k
-    go (yes l) x = absurd (omega (arith, curve-increases A j k a l (omega arith)))
-    go (no n) (yes l) = absurd (omega (arith, curve-increases A k j a l (omega arith)))
-    go (no n) (no m) = omega arith
 
 -- ---- "This is equation 12 of document 000, rounded towards zero": c / N is the cut of the number that the equation names. A ratio n / e of
 -- at most 1 is at most that number where n·(34e − 9n)·A ≤ 25·e²·k.

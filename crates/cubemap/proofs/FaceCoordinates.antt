@@ -1,13 +1,13 @@
 -- The numbers a and b of columns and rows, in both formats: opposite columns have opposite numbers, none reaches the scale, no two columns share one.
-use mathlib.Core.Path.{_≡_, sym, _∙_, ap}
+use mathlib.Core.Path.{_≡_, _∙_, ap}
 use Prim.Native.Nat.{ℕ, suc, _+_, _*_, _-_, _≤_, _<_}
 use native.Mathlib.Omega.{arith}
 use lib.IntN.{pos, negℤ, natAbs, _-ℤ_}
 use Rattle.arithmetic.specs.Integers.{withSignOf}
-use Rattle.arithmetic.proofs.Sizes.{Difference, below, above, difference, difference-neg, difference-inj, sign-size, sign-neg, sign-apart}
+use Rattle.arithmetic.proofs.Sizes.{Difference, below, above, difference, difference-neg, sign-size, sign-neg}
 use Rattle.cubemap.specs.declared.Format.{Format}
 use Rattle.cubemap.specs.PlaceToRay.{N, fromCentre, curve, scale, faceCoordinate}
-use Rattle.cubemap.proofs.Curves.{curve-below, curve-zero, curve-apart}
+use Rattle.cubemap.proofs.Curves.{curve-below, curve-zero}
 
 -- ---- p of a column
 
@@ -29,9 +29,6 @@ fromCentre-left A m r h = go (difference (2 * m + 1) A)
     go (below q e) = rw e (omega arith)
     go (above q e) = rw e (omega arith)
 
-pub fromCentre-apart : (A m n : ℕ) → fromCentre A m ≡ fromCentre A n → m ≡ n
-fromCentre-apart A m n e = omega (arith, difference-inj (2 * m + 1) (2 * n + 1) A e)
-
 -- ---- the scale
 
 pub scale-positive : (format : Format) (A : ℕ) → 0 < A → 0 < scale format A
@@ -47,7 +44,6 @@ scale-bounded Format.Acp A h = omega arith
 pub record Coordinates (format : Format) (A : ℕ) : Type 0 where
   pub mirror : (m : ℕ) → m < A → faceCoordinate format A (A - suc m) ≡ negℤ (faceCoordinate format A m)
   pub inside : (m : ℕ) → m < A → natAbs (faceCoordinate format A m) < scale format A
-  pub apart : (m n : ℕ) → m < A → n < A → faceCoordinate format A m ≡ faceCoordinate format A n → m ≡ n
 
 acp-size : (A m : ℕ) → natAbs (faceCoordinate Format.Acp A m) ≡ curve A (natAbs (fromCentre A m))
 acp-size A m = sign-size (fromCentre A m) (curve A (natAbs (fromCentre A m)))
@@ -60,17 +56,6 @@ acp-mirror A m h =
     ap (λ p. withSignOf p (curve A (natAbs p))) (fromCentre-mirror A m h)
     ∙ sign-neg (curve A) (curve-zero A (omega arith)) (fromCentre A m)
 
-acp-apart : (A m n : ℕ) → A ≤ 512 → m < A → n < A → faceCoordinate Format.Acp A m ≡ faceCoordinate Format.Acp A n → m ≡ n
-acp-apart A m n a p q e = fromCentre-apart A m n (sign-apart (curve A) (fromCentre A m) (fromCentre A n) zero-only sizes e)
-  where
-    zero-only : curve A (natAbs (fromCentre A m)) ≡ 0 → natAbs (fromCentre A m) ≡ 0
-    zero-only z = curve-apart A (natAbs (fromCentre A m)) 0 a (fromCentre-inside A m p) (omega arith) (z ∙ sym (curve-zero A (omega arith)))
-
-    sizes : natAbs (fromCentre A m) ≡ natAbs (fromCentre A n)
-    sizes = curve-apart A (natAbs (fromCentre A m)) (natAbs (fromCentre A n)) a (fromCentre-inside A m p) (fromCentre-inside A n q)
-        (sym (acp-size A m) ∙ ap natAbs e ∙ acp-size A n)
-
 pub coordinates : (format : Format) (A : ℕ) → A ≤ 512 → Coordinates format A
-coordinates Format.Cmp A a =
-    record { mirror = fromCentre-mirror A; inside = fromCentre-inside A; apart = λ m n p q e. fromCentre-apart A m n e }
-coordinates Format.Acp A a = record { mirror = acp-mirror A; inside = acp-inside A; apart = λ m n p q e. acp-apart A m n a p q e }
+coordinates Format.Cmp A a = record { mirror = fromCentre-mirror A; inside = fromCentre-inside A }
+coordinates Format.Acp A a = record { mirror = acp-mirror A; inside = acp-inside A }

@@ -1,9 +1,11 @@
 -- From ray to place: a ray that is not 0 falls on a face, within its range; its positive multiples fall where it does; and the ray of a place
--- falls on that place, at phase 0.
-use mathlib.Core.Path.{_≡_, sym, _∙_}
+-- falls on that place, at phase 0, so that no two places share a ray.
+use mathlib.Core.Path.{_≡_, sym, _∙_, ap}
 use Prim.Native.Nat.{ℕ, _*_, _≤_, _<_}
+use native.Mathlib.Omega.{arith}
 use lib.Dec.{T}
 use lib.IntN.{ℤ, pos}
+use Rattle.arithmetic.proofs.Sizes.{pos-inj}
 use Rattle.cubemap.specs.declared.Format.{Format}
 use Rattle.cubemap.specs.declared.Located.{Located}
 use Rattle.cubemap.specs.declared.Place.{Place}
@@ -12,6 +14,7 @@ use Rattle.cubemap.specs.Frames.{IsPlace}
 use Rattle.cubemap.specs.PlaceToRay.{times, scale, faceCoordinate, rayOf}
 use Rattle.cubemap.specs.RayToPlace.{faceOf, chosenSize, across, down, position64, located, locate}
 use Rattle.cubemap.specs.Checks.{rayNonzero}
+use Rattle.cubemap.proofs.Indices.{place-eq}
 use Rattle.cubemap.proofs.FaceCoordinates.{Coordinates, coordinates}
 use Rattle.cubemap.proofs.Positions.{InRange, position-range, position-times, position-own}
 use Rattle.cubemap.proofs.Faces.{Table4, Faced, faced, across-table3, down-table3, chosen-table3, faceOf-table3}
@@ -85,3 +88,16 @@ locate-own format A P a p = rw (
 pub locate-own-times : (format : Format) (A k : ℕ) (P : Place) → A ≤ 512 → 0 < k → IsPlace A P
     → locate format A (times k (rayOf format A P)) ≡ middleOf P
 locate-own-times format A k P a h p = locate-times format A k (rayOf format A P) h ∙ locate-own format A P a p
+
+-- so no two places have the same ray
+pub ray-apart : (format : Format) (A : ℕ) (P Q : Place) → A ≤ 512 → IsPlace A P → IsPlace A Q → rayOf format A P ≡ rayOf format A Q → P ≡ Q
+ray-apart format A P Q a p q e = place-eq
+    (ap (λ l. l .face) same)
+    (number (P .column) (Q .column) (ap (λ l. l .column) same))
+    (number (P .row) (Q .row) (ap (λ l. l .row) same))
+  where
+    same : middleOf P ≡ middleOf Q
+    same = sym (locate-own format A P a p) ∙ ap (locate format A) e ∙ locate-own format A Q a q
+
+    number : (m n : ℕ) → pos (64 * m) ≡ pos (64 * n) → m ≡ n
+    number m n e = omega (arith, pos-inj (64 * m) (64 * n) e)

@@ -14,7 +14,7 @@ use Rattle.arithmetic.specs.Integers.{withSignOf, isNegative}
 use Rattle.arithmetic.proofs.Integers.{by-combination}
 use Rattle.arithmetic.proofs.Sizes.{pos-inj, natAbs-mul, natAbs-neg, pos-sub, difference-small, difference-inj, Lifted, lifted, own-sign, sign-size, sign-mul}
 use Rattle.arithmetic.proofs.Ring.{Expr, var, con, _⊕_, _⊗_, _⊝_, ⊖, solve}
-use Rattle.arithmetic.proofs.Order.{le-intro, le-elim}
+use Rattle.arithmetic.proofs.Order.{le-elim, difference-le}
 use Rattle.arithmetic.proofs.Floors.{floor-unique}
 use Rattle.cubemap.specs.declared.Format.{Format}
 use Rattle.cubemap.specs.PlaceToRay.{N, fromCentre, curve, scale, faceCoordinate}
@@ -136,20 +136,10 @@ position-shifted format A x d h p = record {
         le-of-suc-le-suc (div-lt-iff-lt-mul {k = 2 * e} {y = suc (64 * A)} (omega arith) .1 (omega arith))
 
 pub position-range : (format : Format) (A : ℕ) (x : ℤ) (d : ℕ) → natAbs x ≤ d → 0 < d → InRange A (position64 format A x d)
-position-range format A x d h p = go (position64 format A x d) (position-shifted format A x d h p)
-  where
-    go : (t : ℤ) → Shifted A t → InRange A t
-    go t w =
-        let q : ℕ = w .shift in
-        let l = w .bounded in
-        let e : 64 * A ≡ q + (64 * A - q) = omega arith in
-        record {
-          low = le-intro (negsuc 31) t q (w .is ∙ solve (pos q ∷ []) (var 0 ⊝ con (pos 32)) (con (negsuc 31) ⊕ var 0) tt);
-          high = le-intro t (pos (64 * A) -ℤ pos 32) (64 * A - q)
-              (ap (λ m. pos m -ℤ pos 32) e
-              ∙ solve (pos q ∷ pos (64 * A - q) ∷ []) (var 0 ⊕ var 1 ⊝ con (pos 32)) (var 0 ⊝ con (pos 32) ⊕ var 1) tt
-              ∙ ap (λ z. z +ℤ pos (64 * A - q)) (sym (w .is)));
-        }
+position-range format A x d h p =
+    let w = position-shifted format A x d h p in
+    let q : ℕ = w .shift in
+    subst (InRange A) (sym (w .is)) (record { low = difference-le 0 q 32 (omega arith); high = difference-le q (64 * A) 32 (w .bounded) })
 
 -- the other way: what is in range is q − 32
 pub in-range-shifted : (A : ℕ) (t : ℤ) → InRange A t → Shifted A t
@@ -412,3 +402,11 @@ position-own Format.Acp A m a h =
   where
     p : ℤ
     p = fromCentre A m
+
+-- so no two columns have the same number
+pub coordinate-apart : (format : Format) (A m n : ℕ) → A ≤ 512 → m < A → n < A → faceCoordinate format A m ≡ faceCoordinate format A n → m ≡ n
+coordinate-apart format A m n a h k e = omega (
+  arith,
+  pos-inj (64 * m) (64 * n)
+      (sym (position-own format A m a h) ∙ ap (λ x. position64 format A x (scale format A)) e ∙ position-own format A n a k),
+)

@@ -1,20 +1,20 @@
 -- The two samplers: what they read, that nothing else is read, that equal samples give themselves, that a value is within the depth, and that at the
 -- middle of a place the value is the sample there.
-use mathlib.Core.Path.{_≡_, refl, sym, _∙_, ap, ap₂, subst}
-use mathlib.Core.Logic.{_⊎_, inl, inr}
+use mathlib.Core.Path.{_≡_, refl, sym, _∙_, ap, ap₂, subst, subst₂}
+use mathlib.Core.Logic.{_≢_, _⊎_, inl, inr}
 use mathlib.Core.List.{[], _∷_}
 use mathlib.Core.Bool.{cond}
 use Prim.Native.Nat.{ℕ, suc, _+_, _*_, _-_, _/_, _^_, _≤_, _<_}
-use native.Mathlib.Decide.{ℕ-discrete}
 use native.Mathlib.Nat.{one-le-pow}
 use native.Mathlib.Omega.{arith}
-use lib.Dec.{T, eqb, eqb→eq, eqb-refl}
+use lib.Dec.{eqb, eqb→eq}
+use borrow.Author.Tests.{eq-eqb}
 use lib.IntN.{ℤ, pos, natAbs, _+ℤ_, _-ℤ_, _*ℤ_, +ℤ-invr, +ℤ-negℤ-cancel, -ℤ-+ℤ-cancel}
 use lib.Signed.{_≤ℤ_, _<ℤ_}
 use Rattle.arithmetic.specs.Integers.{floorDiv, natural}
-use Rattle.arithmetic.proofs.Tests.{cond-true, cond-false}
+use Rattle.arithmetic.proofs.Tests.{passes, cond-false, cond-both}
 use Rattle.arithmetic.proofs.Ring.{Expr, var, con, _⊕_, _⊗_, _⊝_, ⊖, solve}
-use Rattle.arithmetic.proofs.Order.{le-intro, lt-intro}
+use Rattle.arithmetic.proofs.Order.{difference-le, difference-lt}
 use Rattle.arithmetic.proofs.Floors.{remainder, remainder-below, floor-split, floor-times}
 use Rattle.cubemap.specs.declared.Located.{Located}
 use Rattle.cubemap.specs.declared.Place.{Place}
@@ -23,7 +23,7 @@ use Rattle.cubemap.specs.Frames.{place, IsPlace}
 use Rattle.cubemap.specs.Samplers.{nearestColumn, nearestPlace, base, phase, tapAt, tapPlace, tapWeight, overTaps, cubicSum}
 use Rattle.cubemap.specs.Samplers.{rounded, clip, clippedTo, sampleFrom}
 use Rattle.cubemap.proofs.Rounding.{rounded-near}
-use Rattle.cubemap.proofs.Positions.{InRange, Shifted, in-range-shifted}
+use Rattle.cubemap.proofs.Positions.{InRange, in-range-shifted}
 use Rattle.cubemap.proofs.Locate.{OnFace, middleOf}
 use Rattle.cubemap.proofs.Taps.{clip-below, clip-inside, tapPlace-ok, tapPlace-inside}
 
@@ -41,58 +41,36 @@ unfolding nearestColumn
 nearest-shifted A q t e =
     ap (λ z. cond (eqb (natural (floorDiv z 64)) A) (A - 1) (natural (floorDiv z 64))) (ap (λ z. z +ℤ pos 32) e ∙ -ℤ-+ℤ-cancel (pos q) (pos 32))
 
-pub nearest-is : (A : ℕ) (t : ℤ) → 1 ≤ A → InRange A t → NearestTo A t (nearestColumn A t)
-nearest-is A t h g = go (in-range-shifted A t g)
+-- and what that is nearest to
+shifted-nearest : (A q : ℕ) → 1 ≤ A → q ≤ 64 * A → NearestTo A (pos q -ℤ pos 32) (cond (eqb (q / 64) A) (A - 1) (q / 64))
+shifted-nearest A q h b = cond-both (NearestTo A (pos q -ℤ pos 32)) (eqb (q / 64) A) (A - 1) (q / 64)
+    (λ t. last (eqb→eq (q / 64) A t))
+    (λ f. inner (λ e. f (passes (eq-eqb (q / 64) A e))))
   where
-    go : Shifted A t → NearestTo A t (nearestColumn A t)
-    go w = subst (NearestTo A t) (sym (nearest-shifted A q t (w .is))) (choose (ℕ-discrete (q / 64) A))
+    rim : (c : ℕ) → pos (64 * c + 64) -ℤ pos 32 ≡ pos (64 * c) +ℤ pos 32
+    rim c = solve (pos (64 * c) ∷ []) (var 0 ⊕ con (pos 64) ⊝ con (pos 32)) (var 0 ⊕ con (pos 32)) tt
+
+    last : q / 64 ≡ A → NearestTo A (pos q -ℤ pos 32) (A - 1)
+    last e = record {
+      column-ok = omega arith;
+      low = difference-le (64 * (A - 1)) q 32 (omega arith);
+      high = inr (omega arith, ap (λ m. pos m -ℤ pos 32) end ∙ rim (A - 1));
+    }
       where
-        q : ℕ
-        q = w .shift
+        end : q ≡ 64 * (A - 1) + 64
+        end = omega arith
 
-        -- 64·c − 32 ≤ t from 64·c ≤ q
-        from-low : (c : ℕ) → 64 * c ≤ q → (pos (64 * c) -ℤ pos 32) ≤ℤ t
-        from-low c l = le-intro (pos (64 * c) -ℤ pos 32) t (q - 64 * c)
-            (w .is ∙ ap (λ m. pos m -ℤ pos 32) split
-            ∙ solve (pos (64 * c) ∷ pos (q - 64 * c) ∷ []) (var 0 ⊕ var 1 ⊝ con (pos 32)) (var 0 ⊝ con (pos 32) ⊕ var 1) tt)
-          where
-            split : q ≡ 64 * c + (q - 64 * c)
-            split = omega arith
+    inner : q / 64 ≢ A → NearestTo A (pos q -ℤ pos 32) (q / 64)
+    inner n = record {
+      column-ok = omega arith;
+      low = difference-le (64 * (q / 64)) q 32 (omega arith);
+      high = inl (subst (λ z. (pos q -ℤ pos 32) <ℤ z) (rim (q / 64)) (difference-lt q (64 * (q / 64) + 64) 32 (omega arith)));
+    }
 
-        -- t < 64·c + 32 from q < 64·c + 64
-        from-high : (c : ℕ) → q < 64 * c + 64 → t <ℤ (pos (64 * c) +ℤ pos 32)
-        from-high c l = lt-intro t (pos (64 * c) +ℤ pos 32) (64 * c + 63 - q)
-            (solve (pos (64 * c) ∷ []) (var 0 ⊕ con (pos 32)) (var 0 ⊕ con (pos 64) ⊝ con (pos 32)) tt
-            ∙ ap (λ m. pos m -ℤ pos 32) split
-            ∙ solve (pos q ∷ pos (suc (64 * c + 63 - q)) ∷ []) (var 0 ⊕ var 1 ⊝ con (pos 32)) (var 0 ⊝ con (pos 32) ⊕ var 1) tt
-            ∙ ap (λ z. z +ℤ pos (suc (64 * c + 63 - q))) (sym (w .is)))
-          where
-            split : 64 * c + 64 ≡ q + suc (64 * c + 63 - q)
-            split = omega arith
-
-        choose : Dec (q / 64 ≡ A) → NearestTo A t (cond (eqb (q / 64) A) (A - 1) (q / 64))
-        choose (yes e) = subst (NearestTo A t) (sym (cond-true {X = ℕ} (eqb (q / 64) A) (A - 1) (q / 64) same))
-            (record {
-              column-ok = omega arith;
-              low = from-low (A - 1) (omega (arith, w .bounded));
-              high = inr (
-                omega arith,
-                w .is ∙ ap (λ m. pos m -ℤ pos 32) end ∙ solve (pos (64 * (A - 1)) ∷ [])
-                    (var 0 ⊕ con (pos 64) ⊝ con (pos 32)) (var 0 ⊕ con (pos 32)) tt,
-              );
-            })
-          where
-            same : T (eqb (q / 64) A)
-            same = subst (λ n. T (eqb (q / 64) n)) e (eqb-refl (q / 64))
-
-            end : q ≡ 64 * (A - 1) + 64
-            end = omega (arith, w .bounded)
-        choose (no d) = subst (NearestTo A t) (sym (cond-false {X = ℕ} (eqb (q / 64) A) (A - 1) (q / 64) (λ u. d (eqb→eq (q / 64) A u))))
-            (record {
-              column-ok = omega (arith, w .bounded);
-              low = from-low (q / 64) (omega arith);
-              high = inl (from-high (q / 64) (omega arith));
-            })
+pub nearest-is : (A : ℕ) (t : ℤ) → 1 ≤ A → InRange A t → NearestTo A t (nearestColumn A t)
+nearest-is A t h g =
+    let w = in-range-shifted A t g in
+    subst₂ (NearestTo A) (sym (w .is)) (sym (nearest-shifted A (w .shift) t (w .is))) (shifted-nearest A (w .shift) h (w .bounded))
 
 pub nearestPlace-columns : (A : ℕ) (p : Located) → place (p .face) (nearestColumn A (p .column)) (nearestColumn A (p .row)) ≡ nearestPlace A p
 unfolding nearestPlace

@@ -24,7 +24,8 @@ use Rattle.cubemap.specs.Frames.{IsPlace}
 use Rattle.cubemap.specs.PlaceToRay.{fromCentre, scale, faceCoordinate, rayOf}
 use Rattle.cubemap.specs.Rotations.{sumOfSquares, CubeRotation}
 use Rattle.cubemap.specs.Score.{weightOf, weight}
-use Rattle.cubemap.proofs.FaceCoordinates.{fromCentre-mirror, fromCentre-inside, Coordinates}
+use Rattle.cubemap.proofs.FaceCoordinates.{fromCentre-mirror, fromCentre-inside, coordinates}
+use Rattle.cubemap.proofs.Positions.{coordinate-apart}
 use Rattle.cubemap.proofs.Faces.{overSizes, table3-sizes}
 use Rattle.cubemap.proofs.Rotations.{LeadsTo, leads-only}
 use Rattle.cubemap.proofs.CubeRotations.{Order, xyz, xzy, yxz, yzx, zxy, zyx, inOrder, flipped, Permutation, permuted, Permutes, cube-permutes}
@@ -191,7 +192,7 @@ same-pair a b c d h = go (ℕ-discrete c a) (ℕ-discrete d a)
 abbrev pub Level : ℕ → Place → Place → Type 0
 Level A P Q = (w : ℕ → ℕ → ℕ) → Symmetric A w → w (P .column) (P .row) ≡ w (Q .column) (Q .row)
 
-module _ (format : Format) (A : ℕ) (k : Coordinates format A) where
+module _ (format : Format) (A : ℕ) (small : A ≤ 512) where
   abbrev a : ℕ → ℤ
   a m = faceCoordinate format A m
 
@@ -200,10 +201,10 @@ module _ (format : Format) (A : ℕ) (k : Coordinates format A) where
   same-or-opposite m n p q e = go (signed (a m)) (signed (a n))
     where
       same : a m ≡ a n → (m ≡ n) ⊎ (m ≡ A - suc n)
-      same f = inl (k .apart m n p q f)
+      same f = inl (coordinate-apart format A m n small p q f)
 
       opposite : a m ≡ negℤ (a n) → (m ≡ n) ⊎ (m ≡ A - suc n)
-      opposite f = inr (k .apart m (A - suc n) p (omega arith) (f ∙ sym (k .mirror n q)))
+      opposite f = inr (coordinate-apart format A m (A - suc n) small p (omega arith) (f ∙ sym (coordinates format A small .mirror n q)))
 
       go : Signed (a m) (natAbs (a m)) → Signed (a n) (natAbs (a n)) → (m ≡ n) ⊎ (m ≡ A - suc n)
       go (plus x) (plus y) = same (x ∙ ap pos e ∙ sym y)

@@ -15,7 +15,6 @@ use Rattle.cubemap.specs.Frames.{Frame, IsPlace, frameSample}
 use Rattle.cubemap.specs.Rotations.{sumOfSquares, compose, composeFrom, CubeRotation}
 use Rattle.cubemap.specs.Checks.{ConvertSettings, layoutOK}
 use Rattle.cubemap.specs.Promises.{ConvertCall, ConvertPromise}
-use Rattle.cubemap.proofs.FaceCoordinates.{coordinates}
 use Rattle.cubemap.proofs.Rotations.{sum-positive, identity-positive, inverse}
 use Rattle.cubemap.proofs.Reduction.{compose-positive, compose-leads}
 use Rattle.cubemap.proofs.CubeRotations.{cube-matrix}
@@ -111,7 +110,7 @@ module _ (first : Frame) (b : Model) (s : ConvertSettings) (a : first .shape .si
 
   both-level : (P : Place) → IsPlace (first .shape .size) P → Level (first .shape .size) P (v .to (step P))
   both-level P p w y =
-      led-level (formatOf (z .format)) (z .size) (coordinates (formatOf (z .format)) (z .size) a) (s .rotation) P (step P) h c p (on P p)
+      led-level (formatOf (z .format)) (z .size) a (s .rotation) P (step P) h c p (on P p)
       (m .leads P p .same-ray) w y
       ∙ v .level (step P) (on P p) w y
 
