@@ -58,16 +58,16 @@ pub data Difference (a b : ℕ) : Type 0 where
   below : a < b → pos a -ℤ pos b ≡ negsuc (b - suc a) → Difference a b
   above : b ≤ a → pos a -ℤ pos b ≡ pos (a - b) → Difference a b
 
-pub difference : (a b : ℕ) → Difference a b
-difference a zero = above (omega arith) (ap pos (omega arith))
-difference a (suc b) = go (ltb a (suc b)) refl
+pub difference-cases : (a b : ℕ) → Difference a b
+difference-cases a zero = above (omega arith) (ap pos (omega arith))
+difference-cases a (suc b) = go (ltb a (suc b)) refl
   where
     go : (t : Bool) → ltb a (suc b) ≡ t → Difference a (suc b)
     go true e = below (ltb→lt a (suc b) (rw e tt)) (rw e)
     go false e = above (nltb→le a (suc b) (rw e tt)) (rw e)
 
 pub pos-sub : (a b : ℕ) → b ≤ a → pos a -ℤ pos b ≡ pos (a - b)
-pos-sub a b h = go (difference a b)
+pos-sub a b h = go (difference-cases a b)
   where
     go : Difference a b → pos a -ℤ pos b ≡ pos (a - b)
     go (below l e) = absurd (omega arith)
@@ -75,7 +75,7 @@ pos-sub a b h = go (difference a b)
 
 -- two natural numbers that lie within D of each other
 pub difference-small : (a b D : ℕ) → a ≤ b + D → b ≤ a + D → natAbs (pos a -ℤ pos b) ≤ D
-difference-small a b D h k = go (difference a b)
+difference-small a b D h k = go (difference-cases a b)
   where
     go : Difference a b → natAbs (pos a -ℤ pos b) ≤ D
     go (below l e) = rw e (omega arith)
@@ -92,7 +92,7 @@ neg-pos (suc n) h = ap negsuc (omega arith)
 
 -- b − a is the opposite of a − b
 pub difference-neg : (a b c d : ℕ) → a + c ≡ b + d → pos a -ℤ pos b ≡ negℤ (pos c -ℤ pos d)
-difference-neg a b c d h = go (difference a b) (difference c d)
+difference-neg a b c d h = go (difference-cases a b) (difference-cases c d)
   where
     go : Difference a b → Difference c d → pos a -ℤ pos b ≡ negℤ (pos c -ℤ pos d)
     go (below p e) (below q f) = absurd (omega arith)

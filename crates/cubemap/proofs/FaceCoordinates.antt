@@ -4,7 +4,7 @@ use Prim.Native.Nat.{ℕ, suc, _+_, _*_, _-_, _≤_, _<_}
 use native.Mathlib.Omega.{arith}
 use lib.IntN.{pos, negℤ, natAbs, _-ℤ_}
 use Rattle.arithmetic.specs.Integers.{withSignOf}
-use Rattle.arithmetic.proofs.Sizes.{Difference, below, above, difference, difference-neg, sign-size, sign-neg}
+use Rattle.arithmetic.proofs.Sizes.{Difference, below, above, difference-cases, difference-neg, sign-size, sign-neg}
 use Rattle.cubemap.specs.declared.Format.{Format}
 use Rattle.cubemap.specs.PlaceToRay.{N, fromCentre, curve, scale, faceCoordinate}
 use Rattle.cubemap.proofs.Curves.{curve-below, curve-zero}
@@ -15,7 +15,7 @@ pub fromCentre-mirror : (A m : ℕ) → m < A → fromCentre A (A - suc m) ≡ n
 fromCentre-mirror A m h = difference-neg (2 * (A - suc m) + 1) A (2 * m + 1) A (omega arith)
 
 pub fromCentre-inside : (A m : ℕ) → m < A → natAbs (fromCentre A m) < A
-fromCentre-inside A m h = go (difference (2 * m + 1) A)
+fromCentre-inside A m h = go (difference-cases (2 * m + 1) A)
   where
     go : Difference (2 * m + 1) A → natAbs (pos (2 * m + 1) -ℤ pos A) < A
     go (below q e) = rw e (omega arith)
@@ -23,7 +23,7 @@ fromCentre-inside A m h = go (difference (2 * m + 1) A)
 
 -- left of the middle, and in it
 pub fromCentre-left : (A m r : ℕ) → 2 * m + 1 + r ≡ A → natAbs (fromCentre A m) ≡ r
-fromCentre-left A m r h = go (difference (2 * m + 1) A)
+fromCentre-left A m r h = go (difference-cases (2 * m + 1) A)
   where
     go : Difference (2 * m + 1) A → natAbs (pos (2 * m + 1) -ℤ pos A) ≡ r
     go (below q e) = rw e (omega arith)

@@ -19,45 +19,45 @@ module _ (a b : Rotation) where
   abbrev pub bothNonzero : Bool
   bothNonzero = rotationNonzero a && rotationNonzero b
 
-  abbrev question6 : Check
-  question6 = check 6 bothInRange
+  abbrev check6 : Check
+  check6 = check 6 bothInRange
 
-  abbrev question7 : Check
-  question7 = check 7 bothNonzero
+  abbrev check7 : Check
+  check7 = check 7 bothNonzero
 
-  abbrev question12 : Check
-  question12 = check 12 (rotationInRange (compose a b))
+  abbrev check12 : Check
+  check12 = check 12 (rotationInRange (compose a b))
 
   -- ---- equality
 
-  equal-answered : (x : Answer) → firstFailed (question6 ∷ question7 ∷ []) ≡ x → equalResult a b ≡ ifAccepted x (equalValues (sameRotation a b))
+  equal-answered : (x : Answer) → firstFailed (check6 ∷ check7 ∷ []) ≡ x → equalResult a b ≡ ifAccepted x (equalValues (sameRotation a b))
   unfolding equalResult equalChecks
   equal-answered x e = ap (λ x. ifAccepted x (equalValues (sameRotation a b))) e
 
   pub equal-range : bothInRange ≡ false → equalResult a b ≡ refused Refusal.RotationRange
-  equal-range e = equal-answered _ (failing [] question6 (question7 ∷ []) tt e)
+  equal-range e = equal-answered _ (failing [] check6 (check7 ∷ []) tt e)
 
   pub equal-zero : T bothInRange → bothNonzero ≡ false → equalResult a b ≡ refused Refusal.RotationZero
-  equal-zero r e = equal-answered _ (failing (question6 ∷ []) question7 [] (r, tt) e)
+  equal-zero r e = equal-answered _ (failing (check6 ∷ []) check7 [] (r, tt) e)
 
   pub equal-accepted : T bothInRange → T bothNonzero → equalResult a b ≡ result accepted (equalValues (sameRotation a b))
-  equal-accepted r n = equal-answered accepted (holding (question6 ∷ question7 ∷ []) (r, (n, tt)))
+  equal-accepted r n = equal-answered accepted (holding (check6 ∷ check7 ∷ []) (r, (n, tt)))
 
   -- ---- fold
 
-  fold-answered : (x : Answer) → firstFailed (question6 ∷ question7 ∷ question12 ∷ []) ≡ x → foldResult a b ≡ ifAccepted x (foldValues (compose a b))
+  fold-answered : (x : Answer) → firstFailed (check6 ∷ check7 ∷ check12 ∷ []) ≡ x → foldResult a b ≡ ifAccepted x (foldValues (compose a b))
   unfolding foldResult foldChecks equalChecks
   fold-answered x e = ap (λ x. ifAccepted x (foldValues (compose a b))) e
 
   pub fold-range : bothInRange ≡ false → foldResult a b ≡ refused Refusal.RotationRange
-  fold-range e = fold-answered _ (failing [] question6 (question7 ∷ question12 ∷ []) tt e)
+  fold-range e = fold-answered _ (failing [] check6 (check7 ∷ check12 ∷ []) tt e)
 
   pub fold-zero : T bothInRange → bothNonzero ≡ false → foldResult a b ≡ refused Refusal.RotationZero
-  fold-zero r e = fold-answered _ (failing (question6 ∷ []) question7 (question12 ∷ []) (r, tt) e)
+  fold-zero r e = fold-answered _ (failing (check6 ∷ []) check7 (check12 ∷ []) (r, tt) e)
 
   pub fold-beyond : T bothInRange → T bothNonzero → rotationInRange (compose a b) ≡ false → foldResult a b ≡ refused Refusal.FoldedRange
-  fold-beyond r n e = fold-answered _ (failing (question6 ∷ question7 ∷ []) question12 [] (r, (n, tt)) e)
+  fold-beyond r n e = fold-answered _ (failing (check6 ∷ check7 ∷ []) check12 [] (r, (n, tt)) e)
 
   pub fold-accepted : T bothInRange → T bothNonzero → T (rotationInRange (compose a b))
       → foldResult a b ≡ result accepted (foldValues (compose a b))
-  fold-accepted r n f = fold-answered accepted (holding (question6 ∷ question7 ∷ question12 ∷ []) (r, (n, (f, tt))))
+  fold-accepted r n f = fold-answered accepted (holding (check6 ∷ check7 ∷ check12 ∷ []) (r, (n, (f, tt))))

@@ -60,11 +60,11 @@ number-numbered A i = ap (λ x. x * A + i % A) (div-add-mod' (i / A) A) ∙ div-
 -- ---- quarter turns
 
 -- a spot of a face
-pub record Within (A : ℕ) (s : Spot) : Type 0 where
+pub record SpotWithin (A : ℕ) (s : Spot) : Type 0 where
   pub column-ok : s .column < A
   pub row-ok : s .row < A
 
-pub quarterTurns-within : (A k : ℕ) (s : Spot) → Within A s → Within A (quarterTurns A k s)
+pub quarterTurns-within : (A k : ℕ) (s : Spot) → SpotWithin A s → SpotWithin A (quarterTurns A k s)
 unfolding quarterTurns
 quarterTurns-within A zero s w = w
 quarterTurns-within A (suc k) s w =
@@ -73,7 +73,7 @@ quarterTurns-within A (suc k) s w =
 mirror-twice : (A m : ℕ) → m < A → A - 1 - (A - 1 - m) ≡ m
 mirror-twice A m h = omega arith
 
-pub four-turns : (A : ℕ) (s : Spot) → Within A s → quarterTurns A 4 s ≡ s
+pub four-turns : (A : ℕ) (s : Spot) → SpotWithin A s → quarterTurns A 4 s ≡ s
 unfolding quarterTurns
 four-turns A s w = λ i. spot (mirror-twice A (s .column) (w .column-ok) i) (mirror-twice A (s .row) (w .row-ok) i)
 
@@ -89,7 +89,7 @@ pub two-turns : (A : ℕ) (s : Spot) → quarterTurns A 2 s ≡ spot (A - 1 - s 
 unfolding quarterTurns
 two-turns A s = refl
 
-pub three-turns : (A : ℕ) (s : Spot) → Within A s → quarterTurns A 3 s ≡ spot (s .row) (A - 1 - s .column)
+pub three-turns : (A : ℕ) (s : Spot) → SpotWithin A s → quarterTurns A 3 s ≡ spot (s .row) (A - 1 - s .column)
 unfolding quarterTurns
 three-turns A s w = ap (λ m. spot m (A - 1 - s .column)) (mirror-twice A (s .row) (w .row-ok))
 
@@ -106,14 +106,14 @@ turns-add A (suc j) k s = ap (quarterTurn A) (turns-add A j k s) ∙ ap (λ n. q
     one-more j k = omega arith
 
 -- what is left to four turns undoes k turns
-pub turns-back : (A k : ℕ) (s : Spot) → k < 4 → Within A s → quarterTurns A (4 - k) (quarterTurns A k s) ≡ s
+pub turns-back : (A k : ℕ) (s : Spot) → k < 4 → SpotWithin A s → quarterTurns A (4 - k) (quarterTurns A k s) ≡ s
 turns-back A k s h w = turns-add A (4 - k) k s ∙ ap (λ n. quarterTurns A n s) (whole k h) ∙ four-turns A s w
   where
     whole : (k : ℕ) → k < 4 → 4 - k + k ≡ 4
     whole k h = omega arith
 
 -- and k turns undo it
-pub turns-forth : (A k : ℕ) (s : Spot) → k < 4 → Within A s → quarterTurns A k (quarterTurns A (4 - k) s) ≡ s
+pub turns-forth : (A k : ℕ) (s : Spot) → k < 4 → SpotWithin A s → quarterTurns A k (quarterTurns A (4 - k) s) ≡ s
 turns-forth A k s h w = turns-add A k (4 - k) s ∙ ap (λ n. quarterTurns A n s) (whole k h) ∙ four-turns A s w
   where
     whole : (k : ℕ) → k < 4 → k + (4 - k) ≡ 4
@@ -132,7 +132,7 @@ slotAt A i = i / (3 * A) / A * 3 + i % (3 * A) / A
 abbrev pub spotAt : ℕ → ℕ → Spot
 spotAt A i = spot (i % (3 * A) % A) (i / (3 * A) % A)
 
-module _ (A k : ℕ) (s : Spot) (h : k < 6) (w : Within A s) where
+module _ (A k : ℕ) (s : Spot) (h : k < 6) (w : SpotWithin A s) where
   inner-below : k % 3 * A + s .column < 3 * A
   inner-below = digits-lt (mod-lt k (omega arith)) (w .column-ok)
 
@@ -167,7 +167,7 @@ module _ (A i : ℕ) (h : i < planeSamples A) where
   pub slot-at-below : slotAt A i < 6
   slot-at-below = digits-lt {m = 2} (div-lt-iff-lt-mul a .1 (div-lt-iff-lt-mul {y = 2 * A} (omega (arith, a)) .1 h)) inner-slot
 
-  pub spot-at-within : Within A (spotAt A i)
+  pub spot-at-within : SpotWithin A (spotAt A i)
   spot-at-within = record { column-ok = mod-lt (i % (3 * A)) a; row-ok = mod-lt (i / (3 * A)) a }
 
   pub index-of-spot : indexInSlot A (slotAt A i) (spotAt A i) ≡ i
@@ -198,7 +198,7 @@ module _ (A : ℕ) (L : List ℕ) (o : LayoutHolds L) where
   unfolding index
   index-ok P p =
       let k : ℕ = slotOf L (P .face) in
-      let w : Within A (spot (P .column) (P .row)) = record { column-ok = p .column-ok; row-ok = p .row-ok } in
+      let w : SpotWithin A (spot (P .column) (P .row)) = record { column-ok = p .column-ok; row-ok = p .row-ok } in
       index-below A k (quarterTurns A (quarterTurnsIn L k) (spot (P .column) (P .row))) (o .slot-below (P .face) (p .face-ok))
       (quarterTurns-within A (quarterTurnsIn L k) (spot (P .column) (P .row)) w)
 
@@ -214,13 +214,13 @@ module _ (A : ℕ) (L : List ℕ) (o : LayoutHolds L) where
       hk : k < 6
       hk = o .slot-below (P .face) (p .face-ok)
 
-      w : Within A (spot (P .column) (P .row))
+      w : SpotWithin A (spot (P .column) (P .row))
       w = record { column-ok = p .column-ok; row-ok = p .row-ok }
 
       s : Spot
       s = quarterTurns A (quarterTurnsIn L k) (spot (P .column) (P .row))
 
-      hs : Within A s
+      hs : SpotWithin A s
       hs = quarterTurns-within A (quarterTurnsIn L k) (spot (P .column) (P .row)) w
 
   pub bySlot-ok : (i : ℕ) → i < planeSamples A → IsPlace A (placeBySlot A L i)

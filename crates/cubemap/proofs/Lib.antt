@@ -1,4 +1,4 @@
--- The marked cases and examples, by computation; then the laws, one module for each subject, in the paper's order.
+-- The marked cases and examples, by computation; then the laws, one module for each subject, each behind those that it uses.
 pub mod Marked
 pub mod Examples
 pub mod Passed

@@ -11,7 +11,7 @@ use Prim.Native.Nat.{ℕ, zero, suc, _+_, _-_, _*_, _≤_, _<_, min}
 use native.Mathlib.Omega.{arith}
 use lib.ListN.{length, take, drop, length-append, length-take, length-drop}
 use lib.IntN.{ℤ, pos, _-ℤ_}
-use Rattle.arithmetic.proofs.Sizes.{Difference, below, above, difference}
+use Rattle.arithmetic.proofs.Sizes.{Difference, below, above, difference-cases}
 use Rattle.arithmetic.proofs.Tests.{passes}
 use Rattle.cubemap.specs.declared.Located.{Located}
 use Rattle.cubemap.specs.declared.Ray.{Ray}
@@ -48,7 +48,7 @@ abbrev saved : ℕ → ℕ
 saved k = capped 10 k + capped 100 k + capped 1000 k + capped 10000 k
 
 number-length : (k : ℕ) → k < 100000 → length (decimal (pos k)) + saved (suc k) ≤ 5 + saved k
-number-length k h = go (difference k 10) (difference k 100) (difference k 1000) (difference k 10000)
+number-length k h = go (difference-cases k 10) (difference-cases k 100) (difference-cases k 1000) (difference-cases k 10000)
   where
     go : Difference k 10 → Difference k 100 → Difference k 1000 → Difference k 10000 → length (decimal (pos k)) + saved (suc k) ≤ 5 + saved k
     go (below l _) _ _ _ = omega (arith, digits-most 20 0 k l, capped-most 10 k, capped-most 100 k, capped-most 1000 k, capped-most 10000 k)
@@ -81,7 +81,7 @@ position-length A t h r = go (in-range-shifted A t r)
     signed q l (above _ e) = rw e (digits-most 20 4 (q - 32) (omega arith))
 
     go : Shifted A t → length (decimal t) ≤ 5
-    go w = rw (w .is) (signed (w .shift) (omega (arith, w .bounded)) (difference (w .shift) 32))
+    go w = rw (w .is) (signed (w .shift) (omega (arith, w .bounded)) (difference-cases (w .shift) 32))
 
 -- a found ray's
 located-length : (k A : ℕ) (p : Located) → A ≤ 512 → OnFace A p → length (decimal (pos k) ++ spaced (lookUpValues p)) ≤ length (decimal (pos k)) + 15

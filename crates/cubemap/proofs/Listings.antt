@@ -62,7 +62,7 @@ linesFrom k b = linesOf (length b) k b
 shorter : (m x : ℕ) (b : List ℕ) → length (x ∷ b) ≤ suc m → length (drop (recordLength (x ∷ b)) (x ∷ b)) ≤ m
 shorter m x b h = omega (arith, length-drop (recordLength (x ∷ b)) (x ∷ b))
 
--- "There are no more records than bytes."
+-- there are no more records than bytes, so that a higher bound on their number changes nothing
 enough : (m n k : ℕ) (b : List ℕ) → length b ≤ m → length b ≤ n → linesOf m k b ≡ linesOf n k b
 unfolding linesOf
 enough zero zero k [] h g = refl

@@ -38,10 +38,11 @@ unfolding adjusted
 adjusted-positive Format.Cmp x d h = h
 adjusted-positive Format.Acp x d h = mul-pos (mul-pos {m = 25} (omega arith) h) h
 
--- equation 14's numerator, of a number x with the size c and the sign of p
+-- equation 14's numerator
 abbrev acp : ℕ → ℤ → ℤ
 acp d x = x *ℤ (pos (34 * d) -ℤ pos (9 * natAbs x))
 
+-- of a number with the size c and the sign of p it is bent d c with that sign
 acp-is : (d : ℕ) (p : ℤ) (c : ℕ) → c ≤ d → acp d (withSignOf p c) ≡ withSignOf p (bent d c)
 acp-is d p c h =
     ap (λ m. withSignOf p c *ℤ (pos (34 * d) -ℤ pos (9 * m))) (sign-size p c)
@@ -153,7 +154,7 @@ in-range-shifted A t g =
     ∙ solve (pos (p .0) ∷ pos (w .0) ∷ []) (var 0 ⊝ con (pos 32) ⊕ var 1 ⊕ con (pos 32)) (var 0 ⊕ var 1) tt) in
     record { shift = p .0; is = e; bounded = omega arith }
 
--- T fits in 16 bits
+-- for face sizes up to 512 the size of T is at most 32,768
 pub in-range-small : (A : ℕ) (t : ℤ) → A ≤ 512 → InRange A t → natAbs t ≤ 32768
 in-range-small A t h g =
     let w = in-range-shifted A t g in

@@ -9,7 +9,7 @@ use lib.Dec.{T, leb, eqb, leb→le, eqb→eq}
 use lib.ListN.{length, getD}
 use lib.IntN.{pos, negsuc, _-ℤ_}
 use borrow.Author.Tests.{lt-leb, le-leb, lt-ltb, le-ltb}
-use Rattle.arithmetic.proofs.Sizes.{Difference, below, above, difference}
+use Rattle.arithmetic.proofs.Sizes.{Difference, below, above, difference-cases}
 use Rattle.arithmetic.proofs.Tests.{and-left, and-right, cond-both}
 use Rattle.cubemap.specs.declared.Refusal.{Refusal}
 use Rattle.cubemap.specs.Interface.{Answer, isAccepted}
@@ -31,7 +31,7 @@ pub signed-below : (v : ℕ) → v < 2147483648 → signed32 v ≡ pos v
 signed-below v h = ap (λ b. cond b (pos v) (negsuc (2 ^ 32 - suc v))) (lt-ltb v 2147483648 h)
 
 pub signed-above : (v : ℕ) → 2147483648 ≤ v → v < 2 ^ 32 → signed32 v ≡ pos v -ℤ pos 4294967296
-signed-above v h l = ap (λ b. cond b (pos v) (negsuc (2 ^ 32 - suc v))) (le-ltb v 2147483648 h) ∙ go (difference v 4294967296)
+signed-above v h l = ap (λ b. cond b (pos v) (negsuc (2 ^ 32 - suc v))) (le-ltb v 2147483648 h) ∙ go (difference-cases v 4294967296)
   where
     go : Difference v 4294967296 → negsuc (2 ^ 32 - suc v) ≡ pos v -ℤ pos 4294967296
     go (below _ e) = sym e

@@ -193,7 +193,7 @@ multiple-opposite k t = rotation-eq (both (t .e0)) (both (t .e1)) (both (t .e2))
     both : (x : ℤ) → k *ℤ x ≡ negℤ k *ℤ negℤ x
     both x = solve (k ∷ x ∷ []) (var 0 ⊗ var 1) (⊖ (var 0) ⊗ ⊖ (var 1)) tt
 
--- "± the greatest whole number that divides all four" times the reduced rotation: by is plus or minus the common divisor
+-- t is plus or minus "the greatest whole number that divides all four" times u
 pub record ReducedBy (t u : Rotation) : Type 0 where
   pub by : ℤ
   pub size : natAbs by ≡ commonDivisor t

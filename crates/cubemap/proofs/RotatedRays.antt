@@ -19,7 +19,7 @@ use Rattle.cubemap.specs.Checks.{rotationInRange, rotationNonzero, rayIn
 use Rattle.cubemap.proofs.Ranges.{in-range-ray, nonzero-ray}
 use Rattle.cubemap.proofs.FaceCoordinates.{coordinates, scale-positive, scale-bounded}
 use Rattle.cubemap.proofs.Faces.{table3-sizes}
-use Rattle.cubemap.proofs.Rotations.{ray-eq, along, sizeSquared, rotated-size, sum-positive, sum-bounded}
+use Rattle.cubemap.proofs.Rotations.{ray-eq, along, sizeSquared, rotated-size, sum-positive, squares-bounded}
 
 -- ---- checks 13 and 14 from the length of a ray
 
@@ -68,7 +68,7 @@ pub rotated-ray : (t : Rotation) (r : Ray) → T (rotationInRange t) → T (rota
 rotated-ray t r small some p =
     let S : ℕ = sumOfSquares t in
     let e = rotated-size t r in
-    let hS = sum-bounded t small in
+    let hS = squares-bounded t small in
     let b : S * S * sizeSquared r ≤ 14776336 * 12884901888 = mul-le-mul (mul-le-mul {n₂ = 3844} {m₂ = 3844} hS hS) (p .bounded) in
     let c : 0 < S * S * sizeSquared r = mul-pos (mul-pos (sum-positive t some) (sum-positive t some)) (p .positive) in
     record { in-range = size-in-range (rotated t r) (omega arith); nonzero = size-nonzero (rotated t r) (omega arith) }

@@ -128,9 +128,9 @@ sum-positive t h = go (natAbs (t .e0)) (natAbs (t .e1)) (natAbs (t .e2)) (natAbs
     go zero zero zero (suc d) h = omega arith
 
 -- check 6: it is at most 4·31²
-pub sum-bounded : (t : Rotation) → T (rotationInRange t) → sumOfSquares t ≤ 3844
+pub squares-bounded : (t : Rotation) → T (rotationInRange t) → sumOfSquares t ≤ 3844
 unfolding sumOfSquares
-sum-bounded t h =
+squares-bounded t h =
     let w = rotation-range t h in
     omega (arith, one (t .e0) (w .s0), one (t .e1) (w .s1), one (t .e2) (w .s2), one (t .e3) (w .s3))
   where
@@ -313,7 +313,7 @@ sum-product a b = pos-inj (sumOfSquares (product a b)) (sumOfSquares a * sumOfSq
 -- so the numbers of a product of two rotations within check 6 have sizes of at most 4·31²
 pub product-within : (a b : Rotation) → T (rotationInRange a) → T (rotationInRange b) → Within 3844 (product a b)
 product-within a b p q =
-    sum-within 3844 (product a b) (subst (λ n. n ≤ 3844 * 3844) (sym (sum-product a b)) (mul-le-mul (sum-bounded a p) (sum-bounded b q)))
+    sum-within 3844 (product a b) (subst (λ n. n ≤ 3844 * 3844) (sym (sum-product a b)) (mul-le-mul (squares-bounded a p) (squares-bounded b q)))
 
 -- ---- multiples of rays
 

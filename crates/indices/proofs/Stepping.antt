@@ -16,7 +16,7 @@ use Rattle.arithmetic.proofs.Tests.{cond-both}
 use Rattle.cubemap.specs.declared.Place.{Place}
 use Rattle.cubemap.specs.Frames.{place, IsPlace, index, sampleAt, sampleAtPlace}
 use Rattle.cubemap.specs.Frames.{planeSamples, spot, quarterTurns, indexInSlot}
-use Rattle.cubemap.proofs.Indices.{Within, quarterTurns-within, no-turn, one-turn, two-turns, three-turns, slot-index, index-below}
+use Rattle.cubemap.proofs.Indices.{SpotWithin, quarterTurns-within, no-turn, one-turn, two-turns, three-turns, slot-index, index-below}
 use Rattle.cubemap.proofs.Scores.{exchangedOn}
 use Rattle.indices.specs.declared.FaceSteps.{FaceSteps}
 use Rattle.indices.specs.Steps.{stepped, Steps, FaceLeads, stepsIn, LeadsTo, exchanged, alongLines, aligned, Aligned}
@@ -47,7 +47,7 @@ module _ (A slot : ℕ) (a : 1 ≤ A) (b : A ≤ 512) (h : slot < 6) where
   abbrev pub corner : ℕ
   corner = slot / 3 * A * (3 * A) + slot % 3 * A
 
-  last-within : Within A (spot (A - 1) (A - 1))
+  last-within : SpotWithin A (spot (A - 1) (A - 1))
   last-within = record { column-ok = omega arith; row-ok = omega arith }
 
   -- and of its last

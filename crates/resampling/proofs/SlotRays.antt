@@ -16,7 +16,7 @@ use Rattle.cubemap.specs.PlaceToRay.{N, scale, faceCoordinate, table3, rayOf}
 use Rattle.cubemap.specs.Checks.{rayInRange}
 use Rattle.cubemap.proofs.FaceCoordinates.{coordinates}
 use Rattle.cubemap.proofs.Faces.{table3-sizes, rayOf-table3}
-use Rattle.cubemap.proofs.Indices.{Within, four-turns, one-turn, two-turns, three-turns, slotAt, spotAt}
+use Rattle.cubemap.proofs.Indices.{SpotWithin, four-turns, one-turn, two-turns, three-turns, slotAt, spotAt}
 use Rattle.cubemap.proofs.Rotations.{along, sizeSquared}
 use Rattle.cubemap.proofs.RotatedRays.{PlaceRay, size-in-range, neg-along, table3-along}
 use Rattle.resampling.specs.Plane.{slotRay}
@@ -42,7 +42,7 @@ module _ (format : Format) (A f : ℕ) (a : A ≤ 512) (m n : ℕ) (p : m < A) (
   at-spot {x = x} {y} e g h =
       ap rayAt e ∙ rayOf-table3 format A (place f x y) ∙ ap₂ (table3 f (pos (scale format A))) g h
 
-  within : Within A (spot m n)
+  within : SpotWithin A (spot m n)
   within = record { column-ok = p; row-ok = q }
 
   pub slot-ray : (k : ℕ) → k < 4 → rayAt (quarterTurns A (4 - k) (spot m n)) ≡ slotRay f k (pos (scale format A)) (co m) (co n)

@@ -1,4 +1,4 @@
--- The whole list, by one induction over its calls: demand 3's `kept`.
+-- The whole list, by induction over its calls: demand 3's `kept`.
 use mathlib.Core.Path.{_≡_, refl, sym, _∙_, ap, subst}
 use mathlib.Core.Logic.{_⊎_, inl, inr, ⊎-elim}
 use mathlib.Core.Bool.{Bool, true, false, cond, not}
