@@ -20,7 +20,6 @@ use Rattle.cubemap.specs.Samplers.{sampleFrom}
 use Rattle.cubemap.specs.Checks.{ConvertSettings, targetShape, samplesOK}
 use Rattle.cubemap.specs.Outcomes.{result, ifAccepted, lookUpValues, lookUpResult}
 use Rattle.cubemap.specs.Outcomes.{sourcePosition, valueAt, convertedSample, convertedBytes}
-use Rattle.cubemap.proofs.FaceCoordinates.{Coordinates, coordinates}
 use Rattle.cubemap.proofs.Locate.{OnFace, locate-on-face, locate-times, middleOf, locate-own-times, ray-apart}
 use Rattle.cubemap.proofs.Layouts.{LayoutHolds, layout-holds}
 use Rattle.cubemap.proofs.Framed.{plane-bytes, planeOf, place-below}
@@ -119,8 +118,8 @@ pub record Step (z : Shape) (t : Rotation) (P : Place) : Type 0 where
   pub leads : LeadsTo t (rayIn z P) (rayIn z to)
 
 -- a cube rotation leads from each place to one
-pub matrix-step : (z : Shape) (t : Rotation) (P : Place) → z .size ≤ 512 → 0 < sumOfSquares t → CubeMatrix t → IsPlace (z .size) P → Step z t P
-matrix-step z t P a h w p = record { to = q .place; ok = q .ok; leads = m .leads (rayIn z P) ∙ ap (times (sumOfSquares t)) (sym (q .ray)) }
+pub matrix-step : (z : Shape) (t : Rotation) (P : Place) → 0 < sumOfSquares t → CubeMatrix t → IsPlace (z .size) P → Step z t P
+matrix-step z t P h w p = record { to = q .place; ok = q .ok; leads = m .leads (rayIn z P) ∙ ap (times (sumOfSquares t)) (sym (q .ray)) }
   where
     f : Format
     f = formatOf (z .format)
@@ -128,12 +127,8 @@ matrix-step z t P a h w p = record { to = q .place; ok = q .ok; leads = m .leads
     m : Permutes t
     m = matrix-permutes t h w
 
-    k : Coordinates f (z .size)
-    k = coordinates f (z .size) a
-
-    q : PlaceOf f (z .size) k (permuted (m .by) (rayIn z P))
-    q = cube-place f (z .size) k (permuted (m .by) (rayIn z P))
-        (cube-permuted f (z .size) k (m .by) (rayIn z P) (ray-cube f (z .size) k P p))
+    q : PlaceOf f (z .size) (permuted (m .by) (rayIn z P))
+    q = cube-place f (z .size) (permuted (m .by) (rayIn z P)) (cube-permuted f (z .size) (m .by) (rayIn z P) (ray-cube f (z .size) P p))
 
 -- "exactly one place has that ray"
 pub led-only : (z : Shape) (t : Rotation) (P Q R : Place) → z .size ≤ 512 → 0 < sumOfSquares t → IsPlace (z .size) Q → IsPlace (z .size) R

@@ -9,7 +9,7 @@ use Rattle.cubemap.specs.declared.Place.{Place}
 use Rattle.cubemap.specs.declared.Ray.{Ray}
 use Rattle.cubemap.specs.Frames.{place, IsPlace}
 use Rattle.cubemap.specs.PlaceToRay.{ray, scale, faceCoordinate, table3, rayOf}
-use Rattle.cubemap.proofs.FaceCoordinates.{Coordinates}
+use Rattle.cubemap.proofs.FaceCoordinates.{coordinates}
 use Rattle.cubemap.proofs.Rotations.{ray-eq}
 
 -- the number of a column
@@ -27,12 +27,12 @@ pub data CubeRay (format : Format) (A : ℕ) (v : Ray) : Type 0 where
 flip : {x y : ℤ} → negℤ x ≡ y → negℤ y ≡ x
 flip {x} e = sym (ap negℤ e) ∙ negℤ-negℤ x
 
-module _ (format : Format) (A : ℕ) (c : Coordinates format A) where
+module _ (format : Format) (A : ℕ) where
   inner : (m : ℕ) → m < A → Inner format A (faceCoordinate format A m)
   inner m h = record { at = m; at-ok = h; is = refl }
 
   pub inner-neg : {x : ℤ} → Inner format A x → Inner format A (negℤ x)
-  inner-neg i = record { at = A - suc (i .at); at-ok = omega (arith, i .at-ok); is = ap negℤ (i .is) ∙ sym (c .mirror (i .at) (i .at-ok)) }
+  inner-neg i = record { at = A - suc (i .at); at-ok = omega (arith, i .at-ok); is = ap negℤ (i .is) ∙ sym (coordinates format A .mirror (i .at) (i .at-ok)) }
 
   -- a place's ray is a cube ray
   pub ray-cube : (P : Place) → IsPlace A P → CubeRay format A (rayOf format A P)

@@ -18,7 +18,6 @@ use Rattle.cubemap.specs.declared.Ray.{Ray}
 use Rattle.cubemap.specs.declared.Rotation.{Rotation}
 use Rattle.cubemap.specs.PlaceToRay.{ray, times}
 use Rattle.cubemap.specs.Rotations.{sumOfSquares, row1, row2, row3, dot, rotated, cubeEntry, cubeRow, isCubeRotation, CubeRotation}
-use Rattle.cubemap.proofs.FaceCoordinates.{Coordinates}
 use Rattle.cubemap.proofs.Rotations.{ray-eq, rayE, dotE, LeadsTo, sizeSquared, rotated-size, column1, column2, column3}
 use Rattle.cubemap.proofs.Rotations.{inverse, inverse-inverse, sum-inverse, Transposed, transposed}
 use Rattle.cubemap.proofs.CubeRays.{Inner, CubeRay, alongX, alongY, alongZ, inner-neg}
@@ -60,9 +59,9 @@ signed-flipped : (b : Bool) {x : ℤ} {n : ℕ} → Signed x n → Signed (flipp
 signed-flipped true i = signed-neg i
 signed-flipped false i = i
 
-module _ (format : Format) (A : ℕ) (c : Coordinates format A) where
+module _ (format : Format) (A : ℕ) where
   inner-flipped : (b : Bool) {x : ℤ} → Inner format A x → Inner format A (flipped b x)
-  inner-flipped true i = inner-neg format A c i
+  inner-flipped true i = inner-neg format A i
   inner-flipped false i = i
 
   cube-in-order : (o : Order) (v : Ray) → CubeRay format A v → CubeRay format A (inOrder o v)

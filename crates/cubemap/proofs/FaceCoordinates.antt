@@ -56,6 +56,6 @@ acp-mirror A m h =
     ap (λ p. withSignOf p (curve A (natAbs p))) (fromCentre-mirror A m h)
     ∙ sign-neg (curve A) (curve-zero A (omega arith)) (fromCentre A m)
 
-pub coordinates : (format : Format) (A : ℕ) → A ≤ 512 → Coordinates format A
-coordinates Format.Cmp A a = record { mirror = fromCentre-mirror A; inside = fromCentre-inside A }
-coordinates Format.Acp A a = record { mirror = acp-mirror A; inside = acp-inside A }
+pub coordinates : (format : Format) (A : ℕ) → Coordinates format A
+coordinates Format.Cmp A = record { mirror = fromCentre-mirror A; inside = fromCentre-inside A }
+coordinates Format.Acp A = record { mirror = acp-mirror A; inside = acp-inside A }

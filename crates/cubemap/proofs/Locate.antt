@@ -77,7 +77,7 @@ locate-own format A P a p = rw (
 )
   where
     c : Coordinates format A
-    c = coordinates format A a
+    c = coordinates format A
 
     x : ℤ
     x = faceCoordinate format A (P .column)

@@ -44,7 +44,7 @@ place-ray format A P l h p =
     let s : ℕ = scale format A in
     let a : ℕ = natAbs (faceCoordinate format A (P .column)) in
     let b : ℕ = natAbs (faceCoordinate format A (P .row)) in
-    let c = coordinates format A h in
+    let c = coordinates format A in
     go s a b (scale-positive format A l) (scale-bounded format A h) (c .inside (P .column) (p .column-ok)) (c .inside (P .row) (p .row-ok))
     (table3-sizes (λ n. n * n) (P .face) (pos s) (faceCoordinate format A (P .column)) (faceCoordinate format A (P .row)))
   where

@@ -204,7 +204,7 @@ module _ (format : Format) (A : ℕ) (small : A ≤ 512) where
       same f = inl (coordinate-apart format A m n small p q f)
 
       opposite : a m ≡ negℤ (a n) → (m ≡ n) ⊎ (m ≡ A - suc n)
-      opposite f = inr (coordinate-apart format A m (A - suc n) small p (omega arith) (f ∙ sym (coordinates format A small .mirror n q)))
+      opposite f = inr (coordinate-apart format A m (A - suc n) small p (omega arith) (f ∙ sym (coordinates format A .mirror n q)))
 
       go : Signed (a m) (natAbs (a m)) → Signed (a n) (natAbs (a n)) → (m ≡ n) ⊎ (m ≡ A - suc n)
       go (plus x) (plus y) = same (x ∙ ap pos e ∙ sym y)

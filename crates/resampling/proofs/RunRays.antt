@@ -65,7 +65,7 @@ module _ (c : Conversion) (table : List ℤ) (L : List ℕ) (ready : TargetReady
   -- a coordinate is at most N
   pub coordinate-small : (m : ℕ) → m < A → natAbs (getD table m (pos 0)) ≤ N
   coordinate-small m p = subst (λ z. natAbs z ≤ N) (sym (ready .coordinate m p))
-      (le-trans (le-of-lt (coordinates (c .target .format) A (ready .size-most) .inside m p))
+      (le-trans (le-of-lt (coordinates (c .target .format) A .inside m p))
       (scale-bounded (c .target .format) A (ready .size-most)))
 
   -- the place at an index of the run
@@ -85,7 +85,7 @@ module _ (c : Conversion) (table : List ℤ) (L : List ℕ) (ready : TargetReady
     run-ray =
         ap (rotated (c .rotation))
         (ap (rayOf (c .target .format) A) (sym place-is)
-        ∙ slot-ray (c .target .format) A face (ready .size-most) j row p row-below turns turns-below
+        ∙ slot-ray (c .target .format) A face j row p row-below turns turns-below
         ∙ ap₂ (slotRay face turns (pos (scale (c .target .format) A))) (sym (ready .coordinate j p)) (sym (ready .coordinate row row-below))
         ∙ slot-step face turns (pos (scale (c .target .format) A)) (getD table j (pos 0)) (getD table row (pos 0)))
         ∙ rotated-along (c .rotation) _ _ (getD table j (pos 0))

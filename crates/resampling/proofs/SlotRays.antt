@@ -23,13 +23,13 @@ use Rattle.resampling.specs.Plane.{slotRay}
 
 -- ---- the ray of a place, by the spot that its slot has it at
 
-module _ (format : Format) (A f : ℕ) (a : A ≤ 512) (m n : ℕ) (p : m < A) (q : n < A) where
+module _ (format : Format) (A f m n : ℕ) (p : m < A) (q : n < A) where
   -- a coordinate of a column, or row, and of the opposite one
   abbrev co : ℕ → ℤ
   co j = faceCoordinate format A j
 
   opposite : (j : ℕ) → j < A → co (A - 1 - j) ≡ negℤ (co j)
-  opposite j h = ap co (same j) ∙ coordinates format A a .mirror j h
+  opposite j h = ap co (same j) ∙ coordinates format A .mirror j h
     where
       same : (j : ℕ) → A - 1 - j ≡ A - suc j
       same j = omega arith

@@ -88,10 +88,10 @@ module _ (z : Shape) (a : z .size ≤ 512) (t : Rotation) (h : 0 < sumOfSquares 
   inverse-sum = subst (λ n. 0 < n) (sym (sum-inverse t)) h
 
   there : (P : Place) → IsPlace (z .size) P → Leads z t P (to P)
-  there P p = leads-led z a t h P (matrix-step z t P a h w p)
+  there P p = leads-led z a t h P (matrix-step z t P h w p)
 
   again : (Q : Place) → IsPlace (z .size) Q → Leads z (inverse t) Q (back Q)
-  again Q q = leads-led z a (inverse t) inverse-sum Q (matrix-step z (inverse t) Q a inverse-sum (inverse-matrix t w) q)
+  again Q q = leads-led z a (inverse t) inverse-sum Q (matrix-step z (inverse t) Q inverse-sum (inverse-matrix t w) q)
 
   back-to : (P : Place) → IsPlace (z .size) P → back (to P) ≡ P
   back-to P p = led-is z a (inverse t) inverse-sum (to P) P
