@@ -1,6 +1,6 @@
 -- How an answer comes out of a C call: two's complement, numbers in a lent buffer, and what a call gives by its result.
 use mathlib.Core.Path.{_≡_, refl, sym, _∙_, ap, subst}
-use mathlib.Core.Bool.{true, false}
+use mathlib.Core.Bool.{true, false, cond}
 use mathlib.Core.List.{List, [], _∷_, _++_}
 use Prim.Native.Nat.{ℕ, suc, _+_, _*_, _-_, _^_, _≤_, _<_}
 use native.Mathlib.Omega.{arith}
@@ -12,7 +12,7 @@ use borrow.Author.Tests.{le-leb, lt-leb}
 use Rattle.arithmetic.proofs.Tests.{passes, fails}
 use Rattle.cubemap.specs.declared.Refusal.{Refusal}
 use Rattle.cubemap.specs.Interface.{Answer, accepted, isAccepted, returnCode, littleEndian, twosComplement, putAt, putAll}
-use Rattle.cubemap.specs.Outcomes.{Result, result, Outcome, outcome, refusal, refused, written}
+use Rattle.cubemap.specs.Outcomes.{Result, result, ifAccepted, Outcome, outcome, refusal, refused, written}
 use Rattle.cubemap.specs.Promises.{Gives}
 
 -- ---- two's complement
@@ -70,6 +70,10 @@ not-accepted Refusal.RayRange = refl
 not-accepted Refusal.RayZero = refl
 not-accepted Refusal.RecordKind = refl
 not-accepted Refusal.RecordCut = refl
+
+-- what a call gives where a refusal is the answer
+pub refused-gives : (q : Refusal) {a : Answer} (vs : List ℤ) → refusal q ≡ a → refused q ≡ ifAccepted a vs
+refused-gives q vs e = ap (λ b. result (refusal q) (cond b vs [])) (sym (not-accepted q)) ∙ ap (λ a. ifAccepted a vs) e
 
 -- a call that returns 0 is accepted
 pub returned-0 : (a : Answer) → returnCode a ≡ 0 → T (isAccepted a)

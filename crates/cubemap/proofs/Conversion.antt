@@ -12,8 +12,8 @@ use Rattle.cubemap.specs.declared.Ray.{Ray}
 use Rattle.cubemap.specs.declared.Rotation.{Rotation}
 use Rattle.cubemap.specs.declared.Shape.{Shape}
 use Rattle.cubemap.specs.Interface.{formatOf, samplerOf, accepted}
-use Rattle.cubemap.specs.Frames.{IsPlace, planeSamples, sampleAtPlace}
-use Rattle.cubemap.specs.PlaceToRay.{times, rayOf}
+use Rattle.cubemap.specs.Frames.{IsPlace, planeSamples, sampleAtPlace, planeOf}
+use Rattle.cubemap.specs.PlaceToRay.{times, rayOf, rayIn}
 use Rattle.cubemap.specs.Rotations.{sumOfSquares, rotated}
 use Rattle.cubemap.specs.RayToPlace.{locate}
 use Rattle.cubemap.specs.Samplers.{sampleFrom}
@@ -22,7 +22,7 @@ use Rattle.cubemap.specs.Outcomes.{result, ifAccepted, lookUpValues, loo
 use Rattle.cubemap.specs.Outcomes.{sourcePosition, valueAt, convertedSample, convertedBytes}
 use Rattle.cubemap.proofs.Locate.{OnFace, locate-on-face, locate-times, middleOf, locate-own-times, ray-apart}
 use Rattle.cubemap.proofs.Layouts.{LayoutHolds, layout-holds}
-use Rattle.cubemap.proofs.Framed.{plane-bytes, planeOf, place-below}
+use Rattle.cubemap.proofs.Framed.{plane-bytes, place-below}
 use Rattle.cubemap.proofs.Passed.{size-range, ConvertPassed, look-up-accepted}
 use Rattle.cubemap.proofs.Samplers.{value-within, value-own}
 use Rattle.cubemap.proofs.Rotations.{sum-positive, multiple, rotated-multiple, LeadsTo, leads-only}
@@ -106,10 +106,6 @@ module _ (s : ConvertSettings) (n m : ℕ) (source : List ℕ) (c : ConvertPasse
       (λ Q q. place-below (s .sourceShape) (s .sourceLayout) source Q (layout-holds (s .sourceLayout) (c .source-layout)) (c .samples) q)
 
 -- ---- cube rotations at one shape
-
--- the ray of a place of a frame with this shape
-abbrev rayIn : Shape → Place → Ray
-rayIn z P = rayOf (formatOf (z .format)) (z .size) P
 
 -- the place to which a rotation leads: R·r is S times its ray
 pub record Step (z : Shape) (t : Rotation) (P : Place) : Type 0 where

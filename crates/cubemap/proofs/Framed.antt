@@ -15,7 +15,7 @@ use Rattle.arithmetic.proofs.Tests.{same-test}
 use Rattle.cubemap.specs.declared.Place.{Place}
 use Rattle.cubemap.specs.declared.Shape.{Shape}
 use Rattle.cubemap.specs.Interface.{littleEndian}
-use Rattle.cubemap.specs.Frames.{IsPlace, sampleAt, withinDepth, framed, planeSamples, samplesIn, bytesIn, index, placeAt, sampleAtPlace}
+use Rattle.cubemap.specs.Frames.{IsPlace, sampleAt, withinDepth, framed, planeSamples, samplesIn, bytesIn, index, placeAt, sampleAtPlace, planeOf}
 use Rattle.cubemap.specs.Checks.{depthOK, lengthOK, sampleOK, samplesOK, lowestBeyond, samplesCheck}
 use Rattle.cubemap.proofs.Passed.{depth-levels}
 use Rattle.cubemap.proofs.Layouts.{LayoutHolds}
@@ -83,9 +83,6 @@ sample-framed f (suc n) i b h = go (ℕ-discrete i n) (λ l. sample-framed f n i
     go (no d) ih = sample-front (framed f n) (littleEndian 2 (f n)) n i (framed-length f n) (omega arith) ∙ ih (omega arith)
 
 -- ---- the bytes of a plane of face size A in the layout L, with the sample g P at the place P
-
-abbrev pub planeOf : ℕ → List ℕ → (Place → ℕ) → List ℕ
-planeOf A L g = framed (λ i. g (placeAt A L i)) (planeSamples A)
 
 module _ (A : ℕ) (L : List ℕ) (o : LayoutHolds L) where
   pub sample-planeOf : (g : Place → ℕ) (P : Place) → ((Q : Place) → IsPlace A Q → g Q < 65536) → IsPlace A P

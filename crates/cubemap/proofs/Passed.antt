@@ -1,17 +1,17 @@
 -- What an accepted call has passed: each list of checks inverted once, into a record with named fields.
 use mathlib.Core.Path.{_≡_, refl, sym, _∙_, ap}
-use mathlib.Core.Bool.{Bool, true, false, _&&_, not, cond, and-false}
+use mathlib.Core.Bool.{Bool, true, false, _&&_, not, cond}
 use mathlib.Core.List.{List, [], _∷_, _++_}
-use Prim.Native.Nat.{ℕ, _^_, _≤_, _<_}
+use Prim.Native.Nat.{ℕ, _^_, _≤_}
 use native.Mathlib.Nat.{pow-le-pow-right}
 use native.Mathlib.Omega.{arith}
-use lib.Dec.{T, eqb, leb, leb→le, le→leb, T-not}
+use lib.Dec.{T, eqb, leb, leb→le, T-not}
 use lib.ListN.{length}
-use borrow.Author.Tests.{not-true, lt-leb}
-use Rattle.arithmetic.proofs.Tests.{not-refused, and-left, and-right, and-both, All3, and3, cond-true, cond-both}
+use borrow.Author.Tests.{not-true}
+use Rattle.arithmetic.proofs.Tests.{not-refused, and-left, and-right, All3, and3, cond-true, cond-both}
 use Rattle.cubemap.specs.declared.Ray.{Ray}
 use Rattle.cubemap.specs.Interface.{Answer, answer, accepted, isAccepted}
-use Rattle.cubemap.specs.Checks.{ConvertSettings, ScoreSettings, targetShape, Check, check, firstFailed, between, sizeOK, depthOK, codeOK}
+use Rattle.cubemap.specs.Checks.{ConvertSettings, ScoreSettings, targetShape, Check, firstFailed, between, sizeOK, depthOK, codeOK}
 use Rattle.cubemap.specs.Checks.{layoutOK, rotationInRange, rotationNonzero, lengthOK, samplesOK, rayInRange, rayNonzero}
 use Rattle.cubemap.specs.Checks.{sizeChecks, settingChecks, lengthChecks, beforeSamples, convertChecks, scoreChecks, lookUpChecks}
 use Rattle.cubemap.specs.Outcomes.{convertAnswer}
@@ -124,15 +124,6 @@ between-is low high x t = record {
   at-most = leb→le x high (and-right (leb low x) (leb x high) t);
 }
 
-between-holds : (low high x : ℕ) → low ≤ x → x ≤ high → T (between low high x)
-between-holds low high x h k = and-both (leb low x) (leb x high) (le→leb low x h) (le→leb x high k)
-
-below-fails : (low high x : ℕ) → x < low → between low high x ≡ false
-below-fails low high x h = ap (λ b. b && leb x high) (lt-leb low x h)
-
-above-fails : (low high x : ℕ) → high < x → between low high x ≡ false
-above-fails low high x h = ap (λ b. leb low x && b) (lt-leb x high h) ∙ and-false (leb low x)
-
 -- 1, 2
 pub size-test : (A : ℕ) → sizeOK A ≡ between 1 512 A
 unfolding sizeOK
@@ -141,18 +132,6 @@ size-test A = refl
 pub size-range : (A : ℕ) → T (sizeOK A) → Between 1 512 A
 unfolding sizeOK
 size-range A t = between-is 1 512 A t
-
-pub size-holds : (A : ℕ) → 1 ≤ A → A ≤ 512 → T (sizeOK A)
-unfolding sizeOK
-size-holds A h k = between-holds 1 512 A h k
-
-pub size-below : (A : ℕ) → A < 1 → sizeOK A ≡ false
-unfolding sizeOK
-size-below A h = below-fails 1 512 A h
-
-pub size-above : (A : ℕ) → 512 < A → sizeOK A ≡ false
-unfolding sizeOK
-size-above A h = above-fails 1 512 A h
 
 -- 3
 pub depth-test : (D : ℕ) → depthOK D ≡ between 8 12 D
@@ -170,14 +149,6 @@ depth-levels D t = pow-le-pow-right (omega arith) (depth-range D t .at-most)
 pub code-test : (c : ℕ) → codeOK c ≡ leb c 1
 unfolding codeOK
 code-test c = refl
-
-pub code-holds : (c : ℕ) → c ≤ 1 → T (codeOK c)
-unfolding codeOK
-code-holds c h = le→leb c 1 h
-
-pub code-above : (c : ℕ) → 1 < c → codeOK c ≡ false
-unfolding codeOK
-code-above c h = lt-leb c 1 h
 
 -- ---- convert
 
@@ -266,12 +237,6 @@ pub record LookUpPassed (A format : ℕ) (v : Ray) : Type 0 where
   pub format-code : T (codeOK format)
   pub in-range : T (rayInRange v)
   pub nonzero : T (rayNonzero v)
-
--- the checks that it makes, in their order
-pub look-up-checks : (A format : ℕ) (v : Ray)
-    → lookUpChecks A format v ≡ check 1 (sizeOK A) ∷ check 4 (codeOK format) ∷ check 13 (rayInRange v) ∷ check 14 (rayNonzero v) ∷ []
-unfolding lookUpChecks
-look-up-checks A format v = refl
 
 -- these four are all that a look-up asks
 pub look-up-accepted : (A format : ℕ) (v : Ray) → LookUpPassed A format v → firstFailed (lookUpChecks A format v) ≡ accepted

@@ -1,13 +1,12 @@
 -- A score: its sums row by row and how large they are, its checks one by one, and its result by the answer. And what it depends on: of each frame what the checks see, and the
 -- error sum, which stays where both frames' samples move alike to places of the same weight.
-use mathlib.Core.Path.{_≡_, refl, sym, _∙_, ap, ap₂, subst}
+use mathlib.Core.Path.{_≡_, refl, _∙_, ap, ap₂, subst}
 use mathlib.Core.Bool.{Bool, true, false, _&&_, cond}
 use mathlib.Core.List.{List, [], _∷_}
 use Prim.Native.Nat.{ℕ, _*_, _^_, _≤_, _<_}
 use native.Mathlib.Nat.{mul-le-mul}
 use native.Mathlib.Omega.{arith}
 use lib.Dec.{T}
-use lib.IntN.{ℤ}
 use lib.ListN.{length}
 use Rattle.arithmetic.specs.Sums.{sumBelow}
 use Rattle.arithmetic.proofs.Sizes.{difference-small}
@@ -23,7 +22,7 @@ use Rattle.cubemap.specs.Score.{weight, difference, squaredDifference, o
 use Rattle.cubemap.specs.Checks.{ScoreSettings, scoreSettings, Check, check, samplesCheck, firstFailed, sizeOK, depthOK, codeOK, layoutOK, lengthOK}
 use Rattle.cubemap.specs.Checks.{samplesOK, lowestBeyond, scoreChecks}
 use Rattle.cubemap.specs.Outcomes.{result, refusal, refused, ifAccepted, scoreValues, scoreResult}
-use Rattle.cubemap.proofs.Answers.{not-accepted}
+use Rattle.cubemap.proofs.Answers.{refused-gives}
 use Rattle.cubemap.proofs.Passed.{Remaining, ScorePassed, score-passed}
 use Rattle.cubemap.proofs.Places.{OneToOne, same-places, over-cong, over-step, over-bounded, over-least}
 use Rattle.cubemap.proofs.Weights.{Level, weight-symmetric, weight-most, weight-least}
@@ -161,11 +160,7 @@ module _ (s : ScoreSettings) (first second : List ℕ) where
 
   pub score-refused : (q : Refusal) → refusal q ≡ scoreAnswer → refused q ≡ scoreResult s first second
   unfolding scoreResult
-  score-refused q e =
-      ap (λ b. result (refusal q) (cond b values [])) (sym (not-accepted q)) ∙ ap (λ a. ifAccepted a values) e
-    where
-      values : List ℤ
-      values = scoreValues (errorsOf s first second) (weightSum (formatOf (s .shape .format)) (s .shape .size))
+  score-refused q e = refused-gives q _ e
 
   pub score-accepted : accepted ≡ scoreAnswer
       → result accepted (scoreValues (errorsOf s first second) (weightSum (formatOf (s .shape .format)) (s .shape .size))) ≡ scoreResult s first second

@@ -115,6 +115,10 @@ placeNumbered A k = place (k / A / A) (k % A) (k / A % A)
 unfoldable pub placeAt : ℕ → List ℕ → ℕ → Place
 placeAt A L i = placeNumbered A (lowest (λ k. eqb (index A L (placeNumbered A k)) i) (planeSamples A))
 
+-- the plane of bytes in the layout L whose sample at each place P is g P
+abbrev pub planeOf : ℕ → List ℕ → (Place → ℕ) → List ℕ
+planeOf A L g = framed (λ i. g (placeAt A L i)) (planeSamples A)
+
 -- the sample that a plane of bytes has at a place, and that a frame has there
 abbrev pub sampleAtPlace : List ℕ → ℕ → List ℕ → Place → ℕ
 sampleAtPlace bytes A L P = sampleAt bytes (index A L P)

@@ -17,7 +17,7 @@ use Rattle.cubemap.specs.declared.Rotation.{Rotation}
 use Rattle.cubemap.specs.declared.Scored.{Scored}
 use Rattle.cubemap.specs.declared.Shape.{Shape}
 use Rattle.cubemap.specs.Interface.{formatOf, samplerOf, Answer, answer, accepted, isAccepted, putAll}
-use Rattle.cubemap.specs.Frames.{framed, planeSamples, placeAt, sampleAtPlace}
+use Rattle.cubemap.specs.Frames.{sampleAtPlace, planeOf}
 use Rattle.cubemap.specs.PlaceToRay.{rayOf}
 use Rattle.cubemap.specs.Rotations.{rotated, compose, sameRotation}
 use Rattle.cubemap.specs.RayToPlace.{locate}
@@ -81,8 +81,7 @@ convertedSample s source P =
     valueAt (s .sourceShape) (s .sourceLayout) source (s .sampler) (sourcePosition (s .sourceShape) (s .rotation) r)
 
 unfoldable pub convertedBytes : ConvertSettings → List ℕ → List ℕ
-convertedBytes s source =
-    framed (λ i. convertedSample s source (placeAt (s .targetSize) (s .targetLayout) i)) (planeSamples (s .targetSize))
+convertedBytes s source = planeOf (s .targetSize) (s .targetLayout) (convertedSample s source)
 
 -- "A conversion is accepted when none of convert's questions ends it; else it is refused.": the lengths of source and target, the source's bytes
 unfoldable pub convertAnswer : ConvertSettings → ℕ → ℕ → List ℕ → Answer

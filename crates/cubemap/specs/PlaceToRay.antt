@@ -7,6 +7,8 @@ use Rattle.arithmetic.specs.Searches.{largest}
 use Rattle.cubemap.specs.declared.Format.{Format}
 use Rattle.cubemap.specs.declared.Place.{Place}
 use Rattle.cubemap.specs.declared.Ray.{Ray}
+use Rattle.cubemap.specs.declared.Shape.{Shape}
+use Rattle.cubemap.specs.Interface.{formatOf}
 
 -- "Axes: X front, Y top, Z right."
 abbrev pub ray : ℤ → ℤ → ℤ → Ray
@@ -63,3 +65,7 @@ table3 face s a b = rowOf face
 unfoldable pub rayOf : Format → ℕ → Place → Ray
 rayOf format A P =
     table3 (P .face) (pos (scale format A)) (faceCoordinate format A (P .column)) (faceCoordinate format A (P .row))
+
+-- the ray of a place of a frame with this shape
+abbrev pub rayIn : Shape → Place → Ray
+rayIn z P = rayOf (formatOf (z .format)) (z .size) P

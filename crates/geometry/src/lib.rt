@@ -249,13 +249,10 @@ fn nonzero(v: Ray) -> bool
 pub fn look_up(size: u64, format: u64, v: Ray) -> LookedUp
     ensures { λ r. ⌜ lookedUpMeans r ≡ lookUpResult size format v ⌝ }
 {
-    if size < 1 {
+    if !frame::size_ok(size) {
         return LookedUp::Refused(Refusal::FaceSize);
     }
-    if 512 < size {
-        return LookedUp::Refused(Refusal::FaceSize);
-    }
-    if 1 < format {
+    if !frame::code_ok(format) {
         return LookedUp::Refused(Refusal::Code);
     }
     if !in_range(v) {

@@ -10,7 +10,7 @@ use Rattle.arithmetic.proofs.Tests.{passes, fails, same-test, cond-true, cond-f
 use Rattle.cubemap.specs.declared.Place.{Place}
 use Rattle.cubemap.specs.declared.Shape.{Shape}
 use Rattle.cubemap.specs.Interface.{returnCode, isAccepted}
-use Rattle.cubemap.specs.Frames.{Frame, IsPlace, sampleAtPlace, frameSample}
+use Rattle.cubemap.specs.Frames.{Frame, IsPlace, sampleAtPlace, frameSample, planeOf}
 use Rattle.cubemap.specs.Rotations.{sumOfSquares}
 use Rattle.cubemap.specs.Checks.{ConvertSettings, targetShape}
 use Rattle.cubemap.specs.Outcomes.{convertedSample, convertedBytes}
@@ -19,11 +19,12 @@ use Rattle.cubemap.proofs.Answers.{returned-0}
 use Rattle.cubemap.proofs.Passed.{size-range, ConvertPassed, convert-passed}
 use Rattle.cubemap.proofs.ConvertChecks.{answer-accepted, answer-of-part, outcome-is}
 use Rattle.cubemap.proofs.Layouts.{layout-holds}
-use Rattle.cubemap.proofs.Framed.{planeOf, planeOf-cong}
+use Rattle.cubemap.proofs.Framed.{planeOf-cong}
 use Rattle.cubemap.proofs.Rotations.{LeadsTo, sum-positive}
 use Rattle.cubemap.proofs.CubeRotations.{cube-matrix}
 use Rattle.cubemap.proofs.Conversion.{converted-frame, converted-own}
-use Rattle.sequences.specs.Steps.{rayIn, Leads, ledTo}
+use Rattle.cubemap.specs.PlaceToRay.{rayIn}
+use Rattle.sequences.specs.Steps.{Leads, ledTo}
 use Rattle.sequences.specs.Model.{told, answerTo, accepts, Model, movedFrame, afterAccepted, afterCall}
 use Rattle.sequences.specs.Runs.{leftBy, Each, Reads, OwnCubeTurn, AcceptedAreOwn, Keeping}
 use Rattle.sequences.specs.Demand3.{Answers}

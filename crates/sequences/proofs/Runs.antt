@@ -20,7 +20,8 @@ use Rattle.cubemap.proofs.Reduction.{compose-positive, compose-leads}
 use Rattle.cubemap.proofs.CubeRotations.{cube-matrix}
 use Rattle.cubemap.proofs.Weights.{Level, led-level}
 use Rattle.cubemap.proofs.Places.{OneToOne, same-places, one-after}
-use Rattle.sequences.specs.Steps.{rayIn, Leads, ledTo}
+use Rattle.cubemap.specs.PlaceToRay.{rayIn}
+use Rattle.sequences.specs.Steps.{Leads, ledTo}
 use Rattle.sequences.specs.Model.{Told, told, toldAll, accepts, Model, atStart, movedFrame, afterAccepted, afterCall, afterCalls, modelOf}
 use Rattle.sequences.specs.Model.{acceptedRotations}
 use Rattle.sequences.specs.Runs.{leftBy, lastFrame, Each, Keeping, Run}

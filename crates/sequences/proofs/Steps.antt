@@ -13,7 +13,7 @@ use Rattle.cubemap.specs.declared.Ray.{Ray}
 use Rattle.cubemap.specs.declared.Rotation.{Rotation}
 use Rattle.cubemap.specs.declared.Shape.{Shape}
 use Rattle.cubemap.specs.Frames.{IsPlace, planeSamples, placeNumbered}
-use Rattle.cubemap.specs.PlaceToRay.{times}
+use Rattle.cubemap.specs.PlaceToRay.{times, rayIn}
 use Rattle.cubemap.specs.Rotations.{sumOfSquares, rotated, identity, CubeRotation, sameRotation}
 use Rattle.cubemap.specs.Checks.{rotationNonzero}
 use Rattle.cubemap.proofs.Indices.{numberOf, number-below, numbered-ok, numbered-number, number-numbered}
@@ -22,7 +22,7 @@ use Rattle.cubemap.proofs.Reduction.{same-is, same-of, same-leads}
 use Rattle.cubemap.proofs.CubeRotations.{CubeMatrix, cube-matrix, inverse-matrix}
 use Rattle.cubemap.proofs.Conversion.{Step, matrix-step, led-only}
 use Rattle.cubemap.proofs.Places.{OneToOne}
-use Rattle.sequences.specs.Steps.{rayIn, Leads, sameRay, leads, ledTo, ExactlyOne, SamePlaces}
+use Rattle.sequences.specs.Steps.{Leads, sameRay, leads, ledTo, ExactlyOne, SamePlaces}
 
 -- ---- the test is the equation
 

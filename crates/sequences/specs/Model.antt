@@ -5,7 +5,7 @@ use Prim.Native.Nat.{ℕ}
 use lib.ListN.{length}
 use Rattle.cubemap.specs.declared.Rotation.{Rotation}
 use Rattle.cubemap.specs.Interface.{Answer, isAccepted}
-use Rattle.cubemap.specs.Frames.{Frame, framed, planeSamples, placeAt, frameSample}
+use Rattle.cubemap.specs.Frames.{Frame, frameSample, planeOf}
 use Rattle.cubemap.specs.Rotations.{identity, compose}
 use Rattle.cubemap.specs.Checks.{ConvertSettings}
 use Rattle.cubemap.specs.Outcomes.{convertAnswer}
@@ -47,13 +47,11 @@ atStart first = record { frame = first; fold = identity }
 -- "An accepted conversion by turn t replaces the frame by one of the same size, depth and format in the target's layout": the sample at each place
 -- is the old frame's where the step leads
 unfoldable pub movedFrame : Frame → ConvertSettings → Frame
-movedFrame F s =
-    let A = F .shape .size in
-    record {
-      shape = F .shape;
-      layout = s .targetLayout;
-      bytes = framed (λ i. frameSample F (ledTo (F .shape) (s .rotation) (placeAt A (s .targetLayout) i))) (planeSamples A);
-    }
+movedFrame F s = record {
+  shape = F .shape;
+  layout = s .targetLayout;
+  bytes = planeOf (F .shape .size) (s .targetLayout) (λ P. frameSample F (ledTo (F .shape) (s .rotation) P));
+}
 
 -- "The new fold is that of the old fold, as first, and t, as later."
 abbrev pub afterAccepted : Model → ConvertSettings → Model

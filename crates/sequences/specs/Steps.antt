@@ -8,14 +8,9 @@ use Rattle.cubemap.specs.declared.Place.{Place}
 use Rattle.cubemap.specs.declared.Ray.{Ray}
 use Rattle.cubemap.specs.declared.Rotation.{Rotation}
 use Rattle.cubemap.specs.declared.Shape.{Shape}
-use Rattle.cubemap.specs.Interface.{formatOf}
 use Rattle.cubemap.specs.Frames.{IsPlace, planeSamples, placeNumbered}
-use Rattle.cubemap.specs.PlaceToRay.{times, rayOf}
+use Rattle.cubemap.specs.PlaceToRay.{times, rayIn}
 use Rattle.cubemap.specs.Rotations.{sumOfSquares, rotated}
-
--- the ray of a place of a frame with this shape
-abbrev pub rayIn : Shape → Place → Ray
-rayIn z P = rayOf (formatOf (z .format)) (z .size) P
 
 -- the step by t leads from P to the place Q: R·r/S, where r is the ray of P, is the ray of Q; so R·r is S times the ray of Q
 pub record Leads (z : Shape) (t : Rotation) (P Q : Place) : Type 0 where

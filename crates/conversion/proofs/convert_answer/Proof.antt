@@ -23,8 +23,8 @@ settings s =
     convertSettings (a .shape) (a .target-size) (a .target-format) (a .sampler) (a .source-layout .now) (a .target-layout .now) (a .rotation)
 
 -- of checks 8 to 10, the first k hold
-abbrev Held : ℕ → tie.Start → Type 0
-Held k s =
+abbrev FirstHold : ℕ → tie.Start → Type 0
+FirstHold k s =
     let bytes = s .args .source .now in
     let m = s .args .target-length in
     Remaining (drop k (checks8to10 (settings s) (length bytes) m bytes)) (convertAnswer (settings s) (length bytes) m bytes)
@@ -53,13 +53,13 @@ answered c = found (c .before .before) Converted.Accepted (c .enum-told .given .
 passed : (c : tie.After-enum-told) → SettingsPassed (settings (start7 c))
 passed c = settings-passed (settings (start7 c)) (answered c)
 
-held7 : (c : tie.After-enum-told) → Held 0 (start7 c)
+held7 : (c : tie.After-enum-told) → FirstHold 0 (start7 c)
 held7 c = frames-remain _ _ _ _ (answered c)
 
 abbrev start8 : tie.Else1 → tie.Start
 start8 c = start7 (c .before .before)
 
-held8 : (c : tie.Else1) → Held 1 (start8 c)
+held8 : (c : tie.Else1) → FirstHold 1 (start8 c)
 held8 c = next-holds (held7 (c .before .before)) (c .before .length-ok .ensures) (c .if1 .left)
 
 readable : (c : tie.Else1) → Readable (start8 c)
@@ -68,7 +68,7 @@ readable c =
     let p = passed (c .before .before) in
     (p .source-size .at-most, p .depth, length-is _ _ (not-refused (l .ensures) (c .if1 .left)))
 
-held9 : (c : tie.Else2) → Held 2 (start8 (c .before .before))
+held9 : (c : tie.Else2) → FirstHold 2 (start8 (c .before .before))
 held9 c = next-holds (held8 (c .before .before)) (c .before .length-ok2 .ensures) (c .if2 .left)
 
 -- ---- the answers

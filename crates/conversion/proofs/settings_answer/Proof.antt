@@ -14,51 +14,51 @@ settings s =
     convertSettings (a .shape) (a .target-size) (a .target-format) (a .sampler) (a .source-layout .now) (a .target-layout .now) (a .rotation)
 
 -- checks 1 to k hold
-abbrev Held : ℕ → tie.Start → Type 0
-Held k s = Remaining (drop k (checks1to7 (settings s))) (settingsAnswer (settings s))
+abbrev FirstHold : ℕ → tie.Start → Type 0
+FirstHold k s = Remaining (drop k (checks1to7 (settings s))) (settingsAnswer (settings s))
 
 -- ---- behind each check: where the call started, and that the checks up to this one hold
 
 abbrev start1 : tie.Else1 → tie.Start
 start1 c = c .before .before .before .before
 
-held1 : (c : tie.Else1) → Held 1 (start1 c)
+held1 : (c : tie.Else1) → FirstHold 1 (start1 c)
 held1 c = next-holds (settings-remain (settings (start1 c))) (c .before .size-ok .ensures) (c .if1 .left)
 
 abbrev start2 : tie.Else2 → tie.Start
 start2 c = start1 (c .before .before)
 
-held2 : (c : tie.Else2) → Held 2 (start2 c)
+held2 : (c : tie.Else2) → FirstHold 2 (start2 c)
 held2 c = next-holds (held1 (c .before .before)) (c .before .size-ok2 .ensures) (c .if2 .left)
 
 abbrev start3 : tie.Else3 → tie.Start
 start3 c = start2 (c .before .before)
 
-held3 : (c : tie.Else3) → Held 3 (start3 c)
+held3 : (c : tie.Else3) → FirstHold 3 (start3 c)
 held3 c = next-holds (held2 (c .before .before)) (c .before .depth-ok .ensures) (c .if3 .left)
 
 abbrev start4 : tie.Else4 → tie.Start
 start4 c = start3 (c .before .before)
 
-held4 : (c : tie.Else4) → Held 4 (start4 c)
+held4 : (c : tie.Else4) → FirstHold 4 (start4 c)
 held4 c = next-holds (held3 (c .before .before)) (c .before .codes-ok .ensures) (c .if4 .left)
 
 abbrev start5 : tie.Else5 → tie.Start
 start5 c = start4 (c .before .before)
 
-held5 : (c : tie.Else5) → Held 5 (start5 c)
+held5 : (c : tie.Else5) → FirstHold 5 (start5 c)
 held5 c = next-holds (held4 (c .before .before)) (c .before .layouts-ok .ensures) (c .if5 .left)
 
 abbrev start6 : tie.Else6 → tie.Start
 start6 c = start5 (c .before .before)
 
-held6 : (c : tie.Else6) → Held 6 (start6 c)
+held6 : (c : tie.Else6) → FirstHold 6 (start6 c)
 held6 c = next-holds (held5 (c .before .before)) (c .before .in-range .ensures) (c .if6 .left)
 
 abbrev start7 : tie.Else7 → tie.Start
 start7 c = start6 (c .before .before)
 
-held7 : (c : tie.Else7) → Held 7 (start7 c)
+held7 : (c : tie.Else7) → FirstHold 7 (start7 c)
 held7 c = next-holds (held6 (c .before .before)) (c .before .nonzero .ensures) (c .if7 .left)
 
 -- ---- the answers

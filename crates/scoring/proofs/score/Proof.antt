@@ -29,8 +29,8 @@ abbrev second : tie.Start → List ℕ
 second s = s .args .second .now
 
 -- of the checks, the first k hold
-abbrev Held : ℕ → tie.Start → Type 0
-Held k s = Remaining (drop k (checksOfScore (settings s) (first s) (second s))) (scoreAnswer (settings s) (first s) (second s))
+abbrev FirstHold : ℕ → tie.Start → Type 0
+FirstHold k s = Remaining (drop k (checksOfScore (settings s) (first s) (second s))) (scoreAnswer (settings s) (first s) (second s))
 
 -- the call is refused by the check that decides
 refuse : (s : tie.Start) (q : Refusal) → refusal q ≡ scoreAnswer (settings s) (first s) (second s)
@@ -42,49 +42,49 @@ refuse s q e = score-refused (settings s) (first s) (second s) q e
 abbrev start1 : tie.Else1 → tie.Start
 start1 c = c .before .before .before .before .before .before
 
-held1 : (c : tie.Else1) → Held 1 (start1 c)
+held1 : (c : tie.Else1) → FirstHold 1 (start1 c)
 held1 c = next-holds (score-remain (settings (start1 c)) (first (start1 c)) (second (start1 c))) (c .before .size-ok .ensures) (c .if1 .left)
 
 abbrev start2 : tie.Else2 → tie.Start
 start2 c = start1 (c .before .before)
 
-held2 : (c : tie.Else2) → Held 2 (start2 c)
+held2 : (c : tie.Else2) → FirstHold 2 (start2 c)
 held2 c = next-holds (held1 (c .before .before)) (c .before .depth-ok .ensures) (c .if2 .left)
 
 abbrev start3 : tie.Else3 → tie.Start
 start3 c = start2 (c .before .before)
 
-held3 : (c : tie.Else3) → Held 3 (start3 c)
+held3 : (c : tie.Else3) → FirstHold 3 (start3 c)
 held3 c = next-holds (held2 (c .before .before)) (c .before .code-ok .ensures) (c .if3 .left)
 
 abbrev start4 : tie.Else4 → tie.Start
 start4 c = start3 (c .before .before)
 
-held4 : (c : tie.Else4) → Held 4 (start4 c)
+held4 : (c : tie.Else4) → FirstHold 4 (start4 c)
 held4 c = next-holds (held3 (c .before .before)) (c .before .layouts-ok .ensures) (c .if4 .left)
 
 abbrev start5 : tie.Else5 → tie.Start
 start5 c = start4 (c .before .before)
 
-held5 : (c : tie.Else5) → Held 5 (start5 c)
+held5 : (c : tie.Else5) → FirstHold 5 (start5 c)
 held5 c = next-holds (held4 (c .before .before)) (c .before .length-ok .ensures) (c .if5 .left)
 
 abbrev start6 : tie.Else6 → tie.Start
 start6 c = start5 (c .before .before)
 
-held6 : (c : tie.Else6) → Held 6 (start6 c)
+held6 : (c : tie.Else6) → FirstHold 6 (start6 c)
 held6 c = next-holds (held5 (c .before .before)) (c .before .length-ok2 .ensures) (c .if6 .left)
 
 abbrev start7 : tie.Else7 → tie.Start
 start7 c = start6 (c .before .before)
 
-held7 : (c : tie.Else7) → Held 7 (start7 c)
+held7 : (c : tie.Else7) → FirstHold 7 (start7 c)
 held7 c = next-holds (held6 (c .before .before)) (c .before .samples-ok .ensures) (c .if7 .left)
 
 abbrev start8 : tie.Else8 → tie.Start
 start8 c = start7 (c .before .before)
 
-held8 : (c : tie.Else8) → Held 8 (start8 c)
+held8 : (c : tie.Else8) → FirstHold 8 (start8 c)
 held8 c = next-holds (held7 (c .before .before)) (c .before .samples-ok2 .ensures) (c .if8 .left)
 
 -- what code asks of a frame before it looks at its samples
