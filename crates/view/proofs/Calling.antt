@@ -73,7 +73,8 @@ module _ {M : Type 1} (𝓤 : URA M) (H : Heap 𝓤) (A : Atoms 𝓤) (mem : Mem
       owned ! Z.the-row (Is Z.the-row) (LL.makes Z.the-type Z′.the-plain 𝓤 H A) z _ is-shape $ fjoin ! $ move ! (1 ∷ 0 ∷ []) $ fjoin ! $
       nothing ! $ move ! (2 ∷ 0 ∷ []) $ join ! $
       use2 W (raw (View .pre (to-view κ q s z l)))
-      (qed W ((‵ (flft κ q) ⊛ ‵ ftrue) ∷ ‵ (owns (ShrSlice (named 0) κ u8 ∷ Z.the-row ∷ L.the-row ∷ []) (args s z l) (values κ s z l)) ∷ []) ∵ join ! $ frame ! $ done !) $
+      (qed W ((‵ (flft κ q) ⊛ ‵ ftrue) ∷ ‵ (owns (ShrSlice (named 0) κ u8 ∷ Z.the-row ∷ L.the-row ∷ []) (args s z l) (values κ s z l)) ∷ []) ∵ join ! $
+      frame ! $ done !) $
       done !
 
   -- of what the callee ensures, the clause alone: it has no `&mut`, so what is said of last values is dropped

@@ -119,7 +119,8 @@ module _ {M : Type 1} (𝓤 : URA M) (H : Heap 𝓤) (A : Atoms 𝓤) (W : Given
       qed W ((‵ (flft κ q) ⊛ ‵ (flft κ′ q′) ⊛ ‵ ftrue) ∷ ‵ Kept ∷ []) ∵ split ! $ move ! (1 ∷ []) $ split ! $ move ! (1 ∷ []) $ drop ! $
       -- [the second token; the first token; what the parameters own]
       move ! (2 ∷ []) $ fsplit ! $ use1 W (‵ (Slice κ s) ⊛ ‵ (Slice κ s)) (shr-slice-copy 𝓤 H A W (named 0) κ u8 .twice s (sliceValue s ∷ [])) $ split ! $
-      move ! (0 ∷ 2 ∷ []) $ fjoin ! $ move ! (1 ∷ 3 ∷ []) $ use2 W (raw (View 𝓤 H A mem run .pre to-first)) (goes-view 𝓤 H A mem run W κ q s z l is-shape is-layout) $
+      move ! (0 ∷ 2 ∷ []) $ fjoin ! $ move ! (1 ∷ 3 ∷ []) $
+      use2 W (raw (View 𝓤 H A mem run .pre to-first)) (goes-view 𝓤 H A mem run W κ q s z l is-shape is-layout) $
       frame ! $ move ! (1 ∷ []) $ frame ! $ done !
 
   -- behind the first call: what the first view owns, its token, and what was kept
@@ -127,7 +128,8 @@ module _ {M : Type 1} (𝓤 : URA M) (H : Heap 𝓤) (A : Atoms 𝓤) (W : Given
       → ent 𝓤 (⋆ 𝓤 H A (((‵ (Held κ r u) ⊛ (‵ (flft κ q) ⊛ ‵ ftrue)) ⊛ (‵ (flft κ′ q′) ⊛ ‵ Kept)) ∷ []))
       (sep 𝓤 (View 𝓤 H A mem run .pre to-second) (sep 𝓤 (sem 𝓤 H A (Held κ r u)) (sep 𝓤 (sem 𝓤 H A (flft κ q)) (sem 𝓤 H A Kept))))
   goes-second r u is-shape is-layout′ =
-      qed W (((‵ (Held κ r u) ⊛ (‵ (flft κ q) ⊛ ‵ ftrue)) ⊛ (‵ (flft κ′ q′) ⊛ ‵ Kept)) ∷ []) ∵ split ! $ split ! $ move ! (1 ∷ []) $ split ! $ move ! (1 ∷ []) $ drop ! $ move ! (2 ∷ []) $ split ! $
+      qed W (((‵ (Held κ r u) ⊛ (‵ (flft κ q) ⊛ ‵ ftrue)) ⊛ (‵ (flft κ′ q′) ⊛ ‵ Kept)) ∷ []) ∵ split ! $ split ! $ move ! (1 ∷ []) $ split ! $
+      move ! (1 ∷ []) $ drop ! $ move ! (2 ∷ []) $ split ! $
       -- [the second token; what the parameters own; the first token; what the first view owns]
       move ! (1 ∷ []) $ fsplit ! $ move ! (1 ∷ []) $ fsplit ! $ move ! (1 ∷ []) $ fsplit ! $ move ! (1 ∷ []) $ fsplit ! $
       use1 W (‵ (Slice κ′ s′) ⊛ ‵ (Slice κ′ s′)) (shr-slice-copy 𝓤 H A W (named 1) κ′ u8 .twice s′ (sliceValue s′ ∷ [])) $ split ! $
@@ -147,7 +149,8 @@ module _ {M : Type 1} (𝓤 : URA M) (H : Heap 𝓤) (A : Atoms 𝓤) (W : Given
       → ent 𝓤 (⋆ 𝓤 H A (((‵ (Held κ′ r′ u′) ⊛ (‵ (flft κ′ q′) ⊛ ‵ ftrue)) ⊛ (‵ (Held κ r u) ⊛ (‵ (flft κ q) ⊛ ‵ Kept))) ∷ []))
       (sep 𝓤 (OfViews 𝓤 H A mem run .pre (to-sums r r′ u u′)) (sem 𝓤 H A Kept))
   goes-sums r r′ u u′ w =
-      qed W (((‵ (Held κ′ r′ u′) ⊛ (‵ (flft κ′ q′) ⊛ ‵ ftrue)) ⊛ (‵ (Held κ r u) ⊛ (‵ (flft κ q) ⊛ ‵ Kept))) ∷ []) ∵ split ! $ split ! $ move ! (2 ∷ []) $ split ! $ move ! (1 ∷ []) $ split ! $
+      qed W (((‵ (Held κ′ r′ u′) ⊛ (‵ (flft κ′ q′) ⊛ ‵ ftrue)) ⊛ (‵ (Held κ r u) ⊛ (‵ (flft κ q) ⊛ ‵ Kept))) ∷ []) ∵ split ! $ split ! $ move ! (2 ∷ []) $
+      split ! $ move ! (1 ∷ []) $ split ! $
       -- [the first token; what the parameters own; what the first view owns; what the second view owns; the second token]
       move ! (0 ∷ 4 ∷ []) $ join ! $ nothing ! $ move ! (4 ∷ 0 ∷ []) $ fjoin ! $ move ! (3 ∷ 0 ∷ []) $ fjoin ! $ move ! (1 ∷ 0 ∷ []) $
       use2 W (raw (OfViews 𝓤 H A mem run .pre (to-sums r r′ u u′)))
@@ -156,20 +159,30 @@ module _ {M : Type 1} (𝓤 : URA M) (H : Heap 𝓤) (A : Atoms 𝓤) (W : Given
   abbrev Found : Scored → FrameView → FrameView → Type 0
   Found t r r′ = (format : Format) → t ≡ sumsOf format (shown r) (shown r′)
 
-  sums-said : (r r′ : FrameView) (t : Scored) → ent 𝓤 (ensured 𝓤 H A of-views.ended (of-views.clauses 𝓤 H A mem run) κs (r, (r′, tt)) tt t) (fact 𝓤 (Found t r r′))
+  sums-said : (r r′ : FrameView) (t : Scored)
+      → ent 𝓤 (ensured 𝓤 H A of-views.ended (of-views.clauses 𝓤 H A mem run) κs (r, (r′, tt)) tt t) (fact 𝓤 (Found t r r′))
   sums-said r r′ t = exE 𝓤 _ (λ ws. snd∗ 𝓤 (sem 𝓤 H A (lasts of-views.ended κs (r, (r′, tt)) ws)) (fact 𝓤 (Found t r r′)))
 
   exits : (t : Scored) (u : Val) → Found t (viewed s z l) (viewed s′ z l′)
       → ent 𝓤 (⋆ 𝓤 H A (‵ (E.the-row .own t (u ∷ [])) ∷ (‵ (flft κ q) ⊛ ‵ (flft κ′ q′) ⊛ ‵ ftrue) ∷ ‵ Kept ∷ [])) (Post u)
   exits t u f =
       qed W (‵ (E.the-row .own t (u ∷ [])) ∷ (‵ (flft κ q) ⊛ ‵ (flft κ′ q′) ⊛ ‵ ftrue) ∷ ‵ Kept ∷ []) ∵
-      suffices ! _ (ends-at 𝓤 H A sums.ended stayed (sums.clauses 𝓤 H A mem run) W ((κs, (q, (q′, tt)), tt, all, all-at), tt) u t (tt, (tt, (tt, (tt, (tt, tt))))) (tt, (tt, (tt, (tt, (tt, tt)))))) $ says ! f $
+      suffices ! _ (ends-at 𝓤 H A sums.ended stayed (sums.clauses 𝓤 H A mem run) W ((κs, (q, (q′, tt)), tt, all, all-at), tt) u t (tt, (tt, (tt, (tt, (tt, tt))))) (
+        tt,
+        (tt, (tt, (tt, (tt, tt)))),
+      )) $
+      says ! f $
       move ! (1 ∷ []) $ frame ! $ move ! (1 ∷ []) $ frame ! $ done !
 
-  module _ (C : Calls 𝓤 H) (Λ : Loops 𝓤 H) (fm : FmC 𝓤 H (W .laws) C) (known-view : Triple 𝓤 (C #view·view) (View 𝓤 H A mem run)) (known-sums : Triple 𝓤 (C #scoring·sums-of) (OfViews 𝓤 H A mem run)) where
+  module _ (C : Calls 𝓤 H) (Λ : Loops 𝓤 H) (fm : FmC 𝓤 H (W .laws) C) (known-view : Triple 𝓤 (C #view·view) (View 𝓤 H A mem run))
+      (known-sums : Triple 𝓤 (C #scoring·sums-of) (OfViews 𝓤 H A mem run)) where
     walk : Is (ShrSlice (named 0) κ u8) s (sliceValue s ∷ []) → Is Z.the-row z (shapeValue z ∷ []) → Is L.the-row l (layoutValue l ∷ [])
-        → Is (ShrSlice (named 1) κ′ u8) s′ (sliceValue s′ ∷ []) → Is L.the-row l′ (layoutValue l′ ∷ []) → Comparable (shown (viewed s z l)) (shown (viewed s′ z l′))
-        → ent 𝓤 (onEntry 𝓤 H A sums.signature κs (q, (q′, tt)) all all-at) (WpFn 𝓤 H C Λ code.function (sliceValue s ∷ shapeValue z ∷ layoutValue l ∷ sliceValue s′ ∷ layoutValue l′ ∷ []) Post)
+        → Is (ShrSlice (named 1) κ′ u8) s′ (sliceValue s′ ∷ []) → Is L.the-row l′ (layoutValue l′ ∷ [])
+        → Comparable (shown (viewed s z l)) (shown (viewed s′ z l′))
+        → ent 𝓤 (onEntry 𝓤 H A sums.signature κs (
+          q,
+          (q′, tt),
+        ) all all-at) (WpFn 𝓤 H C Λ code.function (sliceValue s ∷ shapeValue z ∷ layoutValue l ∷ sliceValue s′ ∷ layoutValue l′ ∷ []) Post)
     walk is-slice is-shape is-layout is-slice′ is-layout′ w =
         qed W (raw (onEntry 𝓤 H A sums.signature κs (q, (q′, tt)) all all-at) ∷ []) ∵
         enter ! C Λ code.function (sliceValue s ∷ shapeValue z ∷ layoutValue l ∷ sliceValue s′ ∷ layoutValue l′ ∷ []) _ $
@@ -180,38 +193,68 @@ module _ {M : Type 1} (𝓤 : URA M) (H : Heap 𝓤) (A : Atoms 𝓤) (W : Given
         pass1 ! (init ! 6 refl (shr-slice-lawful 𝓤 H A W (named 1) κ′ u8 .typed s′ (sliceValue s′ ∷ []) is-slice′ .0)) $
         pass1 ! (init ! 4 refl (LL.lawful L.the-type L′.the-laws 𝓤 H A W .typed l′ _ is-layout′ .0)) $ pass0 ! $
         move ! (16 ∷ []) $ use1 W (raw (View 𝓤 H A mem run .pre to-first) ⊛ (‵ (flft κ′ q′) ⊛ ‵ Kept)) (goes-first is-shape is-layout) $ split ! $
-        calls-at ! fm (View 𝓤 H A mem run) known-view to-first (and-then ! (load ! (from ! (stop !)) (look ! 14 refl)) (and-then ! (load ! (from ! (stop !)) (look ! 12 refl)) (and-then ! (load ! (from ! (stop !)) (look ! 10 refl)) (no-more !)))) (λ u.
-        use1 W (later (some (λ (r : FrameView). ((‵ (flft κ q) ⊛ ‵ ftrue) ⊛ ‵ (Held κ r u)) ⊛ raw (ensured 𝓤 H A view.ended (view.clauses 𝓤 H A mem run) (κ, tt) (args s z l) tt r)))) (id⊢ 𝓤 _) $ await ! tt $ pick ! (λ r.
-        split ! $ move ! (1 ∷ []) $ use1 W (raw (fact 𝓤 (Made s z l r))) (view-said 𝓤 H A mem run κ s z l r) $ heard ! (Made s z l r) (λ e. split ! $ move ! (1 ∷ []) $
+        calls-at ! fm (View 𝓤 H A mem run) known-view to-first
+        (and-then ! (load ! (from ! (stop !)) (look ! 14 refl)) (and-then ! (load ! (from ! (stop !)) (look ! 12 refl))
+        (and-then ! (load ! (from ! (stop !)) (look ! 10 refl)) (no-more !)))) (λ u.
+        use1 W (later (some (λ (r : FrameView). ((‵ (flft κ q) ⊛ ‵ ftrue) ⊛ ‵ (Held κ r u))
+        ⊛ raw (ensured 𝓤 H A view.ended (view.clauses 𝓤 H A mem run) (κ, tt) (args s z l) tt r)))) (id⊢ 𝓤 _) $
+        await ! tt $ pick ! (λ r.
+        split ! $ move ! (1 ∷ []) $ use1 W (raw (fact 𝓤 (Made s z l r))) (view-said 𝓤 H A mem run κ s z l r) $ heard ! (Made s z l r) (λ e. split ! $
+        move ! (1 ∷ []) $
         -- [what the first view owns; its token; what was kept; room for _7; …; room for _6; …; _5; …; room for _0; …]
         peeks ! (Viewed (κ, tt)) (Is (Viewed (κ, tt))) (shows 𝓤 H A (Viewed (κ, tt))) r (u ∷ []) (λ is.
         land ! (from ! (stop !)) (init ! 5 refl (LL.lawful (F.the-type (localLft κ)) (F′.the-laws (localLft κ)) 𝓤 H A W .typed r _ is .0)) $
-        join ! $ join ! $ use1 W (raw (View 𝓤 H A mem run .pre to-second) ⊛ (‵ (Held κ r u) ⊛ (‵ (flft κ q) ⊛ ‵ Kept))) (goes-second r u is-shape is-layout′) $ split ! $
-        calls-at ! fm (View 𝓤 H A mem run) known-view to-second (and-then ! (load ! (from ! (stop !)) (look ! 8 refl)) (and-then ! (load ! (from ! (stop !)) (look ! 12 refl)) (and-then ! (load ! (from ! (stop !)) (look ! 6 refl)) (no-more !)))) (λ u′.
-        use1 W (later (some (λ (r′ : FrameView). ((‵ (flft κ′ q′) ⊛ ‵ ftrue) ⊛ ‵ (Held κ′ r′ u′)) ⊛ raw (ensured 𝓤 H A view.ended (view.clauses 𝓤 H A mem run) (κ′, tt) (args s′ z l′) tt r′)))) (id⊢ 𝓤 _) $ await ! tt $ pick ! (λ r′.
-        split ! $ move ! (1 ∷ []) $ use1 W (raw (fact 𝓤 (Made s′ z l′ r′))) (view-said 𝓤 H A mem run κ′ s′ z l′ r′) $ heard ! (Made s′ z l′ r′) (λ e′. split ! $ move ! (1 ∷ []) $
+        join ! $ join ! $
+        use1 W (raw (View 𝓤 H A mem run .pre to-second) ⊛ (‵ (Held κ r u) ⊛ (‵ (flft κ q) ⊛ ‵ Kept))) (goes-second r u is-shape is-layout′) $ split ! $
+        calls-at ! fm (View 𝓤 H A mem run) known-view to-second
+        (and-then ! (load ! (from ! (stop !)) (look ! 8 refl)) (and-then ! (load ! (from ! (stop !)) (look ! 12 refl))
+        (and-then ! (load ! (from ! (stop !)) (look ! 6 refl)) (no-more !)))) (λ u′.
+        use1 W (later (some (λ (r′ : FrameView). ((‵ (flft κ′ q′) ⊛ ‵ ftrue) ⊛ ‵ (Held κ′ r′ u′))
+        ⊛ raw (ensured 𝓤 H A view.ended (view.clauses 𝓤 H A mem run) (κ′, tt) (args s′ z l′) tt r′)))) (id⊢ 𝓤 _) $
+        await ! tt $ pick ! (λ r′.
+        split ! $ move ! (1 ∷ []) $ use1 W (raw (fact 𝓤 (Made s′ z l′ r′))) (view-said 𝓤 H A mem run κ′ s′ z l′ r′) $
+        heard ! (Made s′ z l′ r′) (λ e′. split ! $ move ! (1 ∷ []) $
         -- [what the second view owns; its token; what was kept; room for _7; …; _6; …; room for _0; …]
         peeks ! (Viewed (κ′, tt)) (Is (Viewed (κ′, tt))) (shows 𝓤 H A (Viewed (κ′, tt))) r′ (u′ ∷ []) (λ is′.
         land ! (from ! (stop !)) (init ! 3 refl (LL.lawful (F.the-type (localLft κ′)) (F′.the-laws (localLft κ′)) 𝓤 H A W .typed r′ _ is′ .0)) $
         join ! $ join ! $ use1 W (raw (OfViews 𝓤 H A mem run .pre (to-sums r r′ u u′)) ⊛ ‵ Kept)
-        (goes-sums r r′ u u′ (subst₂ (λ (x y : FrameView). Comparable (shown x) (shown y)) (sym (made-is s z l r e)) (sym (made-is s′ z l′ r′ e′)) w)) $ split ! $
-        calls-at ! fm (OfViews 𝓤 H A mem run) known-sums (to-sums r r′ u u′) (and-then ! (load ! (from ! (stop !)) (look ! 4 refl)) (and-then ! (load ! (from ! (stop !)) (look ! 2 refl)) (no-more !))) (λ v.
-        use1 W (later (some (λ (t : Scored). ((‵ (flft κ q) ⊛ ‵ (flft κ′ q′) ⊛ ‵ ftrue) ⊛ ‵ (E.the-row .own t (v ∷ []))) ⊛ raw (ensured 𝓤 H A of-views.ended (of-views.clauses 𝓤 H A mem run) κs (r, (r′, tt)) tt t)))) (id⊢ 𝓤 _) $ await ! tt $ pick ! (λ t.
+        (goes-sums r r′ u u′ (subst₂ (λ (x y : FrameView). Comparable (shown x) (shown y)) (sym (made-is s z l r e)) (sym (made-is s′ z l′ r′ e′)) w)) $
+        split ! $
+        calls-at ! fm (OfViews 𝓤 H A mem run) known-sums (to-sums r r′ u u′)
+        (and-then ! (load ! (from ! (stop !)) (look ! 4 refl)) (and-then ! (load ! (from ! (stop !)) (look ! 2 refl)) (no-more !))) (λ v.
+        use1 W (later (some (λ (t : Scored). ((‵ (flft κ q) ⊛ ‵ (flft κ′ q′) ⊛ ‵ ftrue) ⊛ ‵ (E.the-row .own t (v ∷ [])))
+        ⊛ raw (ensured 𝓤 H A of-views.ended (of-views.clauses 𝓤 H A mem run) κs (r, (r′, tt)) tt t)))) (id⊢ 𝓤 _) $
+        await ! tt $ pick ! (λ t.
         split ! $ move ! (1 ∷ []) $ use1 W (raw (fact 𝓤 (Found t r r′))) (sums-said r r′ t) $ heard ! (Found t r r′) (λ f. split ! $ move ! (1 ∷ []) $
         -- [the result; the tokens; what the parameters own; _7; …; _1; …; room for _0; …]
         peeks ! E.the-row (Is E.the-row) (shows 𝓤 H A E.the-row) t (v ∷ []) (λ is″.
         land ! (from ! (stop !)) (init ! 17 refl (EL.lawful E.the-type E′.the-laws 𝓤 H A W tt .typed t _ is″ .0)) $
-        returns ! (look ! 17 refl) $ forget ! 3 refl $ forget ! 5 refl $ forget ! 7 refl $ forget ! 9 refl $ forget ! 11 refl $ forget ! 13 refl $ forget ! 15 refl $ forget ! 17 refl $
-        move ! (17 ∷ 18 ∷ []) $ free1 ! $ move ! (15 ∷ 16 ∷ []) $ free1 ! $ move ! (13 ∷ 14 ∷ []) $ free1 ! $ move ! (11 ∷ 12 ∷ []) $ free1 ! $ move ! (9 ∷ 10 ∷ []) $ free1 ! $
+        returns ! (look ! 17 refl) $ forget ! 3 refl $ forget ! 5 refl $ forget ! 7 refl $ forget ! 9 refl $ forget ! 11 refl $ forget ! 13 refl $
+        forget ! 15 refl $ forget ! 17 refl $
+        move ! (17 ∷ 18 ∷ []) $ free1 ! $ move ! (15 ∷ 16 ∷ []) $ free1 ! $ move ! (13 ∷ 14 ∷ []) $ free1 ! $ move ! (11 ∷ 12 ∷ []) $ free1 ! $
+        move ! (9 ∷ 10 ∷ []) $ free1 ! $
         move ! (7 ∷ 8 ∷ []) $ free1 ! $ move ! (5 ∷ 6 ∷ []) $ free1 ! $ move ! (3 ∷ 4 ∷ []) $ free1 ! $ free0 ! $
         by ! (exits t v (subst₂ (Found t) (made-is s z l r e) (made-is s′ z l′ r′ e′) f))))))))))))))))))))))
 
 module _ {M : Type 1} (𝓤 : URA M) (H : Heap 𝓤) (A : Atoms 𝓤) (W : Given 𝓤 H A) (mem : Memory → SProp 𝓤) (run : Routine → Fun 𝓤) where
-  sums-walks : (C : Calls 𝓤 H) (Λ : Loops 𝓤 H) → FmC 𝓤 H (W .laws) C → Triple 𝓤 (C #view·view) (View 𝓤 H A mem run) → Triple 𝓤 (C #scoring·sums-of) (OfViews 𝓤 H A mem run)
+  sums-walks : (C : Calls 𝓤 H) (Λ : Loops 𝓤 H) → FmC 𝓤 H (W .laws) C → Triple 𝓤 (C #view·view) (View 𝓤 H A mem run)
+      → Triple 𝓤 (C #scoring·sums-of) (OfViews 𝓤 H A mem run)
       → Walks 𝓤 H A sums.ended stayed (WpFn 𝓤 H C Λ code.function) (sums.clauses 𝓤 H A mem run)
   sums-walks C Λ fm known-view known-sums = walked 𝓤 H A sums.ended stayed (sums.clauses 𝓤 H A mem run) (WpFn 𝓤 H C Λ code.function)
       (λ κs. (slice-vals, (LL.vals Z.the-type Z′.the-laws, (LL.vals L.the-type L′.the-laws, (slice-vals, (LL.vals L.the-type L′.the-laws, tt))))))
-      (λ κs. (shr-slice-tells (named 0) (κs .0) u8, (LL.tells Z.the-type Z′.the-laws, (LL.tells L.the-type L′.the-laws, (shr-slice-tells (named 1) (κs .1 .0) u8, (LL.tells L.the-type L′.the-laws, tt))))))
+      (λ κs. (
+        shr-slice-tells (named 0) (κs .0) u8,
+        (
+          LL.tells Z.the-type Z′.the-laws,
+          (
+            LL.tells L.the-type L′.the-laws,
+            (
+              shr-slice-tells (named 1) (κs .1 .0) u8,
+              (LL.tells L.the-type L′.the-laws, tt),
+            ),
+          ),
+        ),
+      ))
       (λ κs qs bounds a g are. needs 𝓤 (Comparable (shown (viewed (a .0) (a .1 .0) (a .1 .1 .0))) (shown (viewed (a .1 .1 .1 .0) (a .1 .0) (a .1 .1 .1 .1 .0)))) _ (λ w.
       walk 𝓤 H A W mem run (κs .0) (κs .1 .0) (qs .0) (qs .1 .0) (a .0) (a .1 .0) (a .1 .1 .0) (a .1 .1 .1 .0) (a .1 .1 .1 .1 .0) C Λ fm known-view known-sums
       (are .0) (are .1 .0) (are .1 .1 .0) (are .1 .1 .1 .0) (are .1 .1 .1 .1 .0) w))

@@ -162,13 +162,16 @@ module _ {M : Type 1} (𝓤 : URA M) (H : Heap 𝓤) (A : Atoms 𝓤) (W : Given
       qed W ((‵ (flft κ q) ⊛ ‵ (flft κ′ q′) ⊛ ‵ ftrue) ∷ ‵ Kept ∷ []) ∵
       move ! (1 ∷ []) $ fsplit ! $ use1 W (‵ Own ⊛ ‵ Own) (LL.copy D (F′.the-copy (namedLft 2 0 tt κs)) 𝓤 H A W .twice d (mach ∷ [])) $ split ! $
       use1 W (given (mach ∷ [] ≡ mach ∷ []) (‵ (all-own (D .parts) D-laws fields))) (own-open 𝓤 H A W D D-laws fields mach) $ learn ! (λ _.
-      use1 W (‵ (ownAt (D .parts) D-laws 0 (d .bytes)) ⊛ ‵ (rest (D .parts) D-laws 0 fields)) (own-out 𝓤 H A W (D .parts) D-laws 0 fields) $ split ! $ move ! (1 ∷ []) $ drop ! $
+      use1 W (‵ (ownAt (D .parts) D-laws 0 (d .bytes)) ⊛ ‵ (rest (D .parts) D-laws 0 fields)) (own-out 𝓤 H A W (D .parts) D-laws 0 fields) $ split ! $
+      move ! (1 ∷ []) $ drop ! $
       -- [what the first bytes own; what the first view owns; what the second parameter owns; the tokens]
       move ! (2 ∷ []) $ fsplit ! $ use1 W (‵ Own′ ⊛ ‵ Own′) (LL.copy D′ (F′.the-copy (namedLft 2 1 tt κs)) 𝓤 H A W .twice e (mach′ ∷ [])) $ split ! $
       use1 W (given (mach′ ∷ [] ≡ mach′ ∷ []) (‵ (all-own (D′ .parts) D′-laws fields′))) (own-open 𝓤 H A W D′ D′-laws fields′ mach′) $ learn ! (λ _.
-      use1 W (‵ (ownAt (D′ .parts) D′-laws 0 (e .bytes)) ⊛ ‵ (rest (D′ .parts) D′-laws 0 fields′)) (own-out 𝓤 H A W (D′ .parts) D′-laws 0 fields′) $ split ! $ move ! (1 ∷ []) $ drop ! $
+      use1 W (‵ (ownAt (D′ .parts) D′-laws 0 (e .bytes)) ⊛ ‵ (rest (D′ .parts) D′-laws 0 fields′)) (own-out 𝓤 H A W (D′ .parts) D′-laws 0 fields′) $
+      split ! $ move ! (1 ∷ []) $ drop ! $
       -- [what the second bytes own; what the second view owns; nothing; what the first bytes own; what the first view owns; the tokens]
-      nothing ! $ owned ! L.the-row (Is L.the-row) (LL.makes L.the-type L′.the-plain 𝓤 H A) (e .layout) _ is-layout′ $ fjoin ! $ move ! (1 ∷ 0 ∷ []) $ fjoin ! $
+      nothing ! $ owned ! L.the-row (Is L.the-row) (LL.makes L.the-type L′.the-plain 𝓤 H A) (e .layout) _ is-layout′ $ fjoin ! $ move ! (1 ∷ 0 ∷ []) $
+      fjoin ! $
       owned ! L.the-row (Is L.the-row) (LL.makes L.the-type L′.the-plain 𝓤 H A) (d .layout) _ is-layout $ fjoin ! $
       owned ! Z.the-row (Is Z.the-row) (LL.makes Z.the-type Z′.the-plain 𝓤 H A) (d .shape) _ is-shape $ fjoin ! $ move ! (3 ∷ 0 ∷ []) $ fjoin ! $
       move ! (4 ∷ 0 ∷ []) $ use2 W (raw (Core 𝓤 H A mem run .pre to)) (asked w) $ frame ! $ fjoin ! $ move ! (1 ∷ 0 ∷ []) $ fjoin ! $ done !))
@@ -181,12 +184,14 @@ module _ {M : Type 1} (𝓤 : URA M) (H : Heap 𝓤) (A : Atoms 𝓤) (W : Given
       → ent 𝓤 (⋆ 𝓤 H A (‵ (E.the-row .own r (u ∷ [])) ∷ (‵ (flft κ q) ⊛ ‵ (flft κ′ q′) ⊛ ‵ ftrue) ∷ ‵ Kept ∷ [])) (Post u)
   exits r u s =
       qed W (‵ (E.the-row .own r (u ∷ [])) ∷ (‵ (flft κ q) ⊛ ‵ (flft κ′ q′) ⊛ ‵ ftrue) ∷ ‵ Kept ∷ []) ∵
-      suffices ! _ (ends-at 𝓤 H A sums.ended stayed (sums.clauses 𝓤 H A mem run) W ((κs, (q, (q′, tt)), tt, (d, (e, tt)), at), tt) u r (tt, (tt, tt)) (tt, (tt, tt))) $ says ! s $
+      suffices ! _ (ends-at 𝓤 H A sums.ended stayed (sums.clauses 𝓤 H A mem run) W ((κs, (q, (q′, tt)), tt, (d, (e, tt)), at), tt) u r (tt, (tt, tt)) (tt, (tt, tt))) $
+      says ! s $
       move ! (1 ∷ []) $ frame ! $ move ! (1 ∷ []) $ frame ! $ done !
 
   module _ (C : Calls 𝓤 H) (Λ : Loops 𝓤 H) (fm : FmC 𝓤 H (W .laws) C) (known : Triple 𝓤 (C #scoring·sums-apart) (Core 𝓤 H A mem run)) where
     walk : Holds (hasTy (F′.mir (named 0)) mach) × WT mach → Holds (hasTy (F′.mir (named 1)) mach′) × WT mach′
-        → Is Z.the-row (d .shape) (shapeValue (d .shape) ∷ []) → Is L.the-row (d .layout) (layoutValue (d .layout) ∷ []) → Is L.the-row (e .layout) (layoutValue (e .layout) ∷ [])
+        → Is Z.the-row (d .shape) (shapeValue (d .shape) ∷ []) → Is L.the-row (d .layout) (layoutValue (d .layout) ∷ [])
+        → Is L.the-row (e .layout) (layoutValue (e .layout) ∷ [])
         → Comparable (shown d) (shown e)
         → ent 𝓤 (onEntry 𝓤 H A sums.signature κs (q, (q′, tt)) (d, (e, tt)) at) (WpFn 𝓤 H C Λ code.function (mach ∷ mach′ ∷ []) Post)
     walk wt wt′ is-shape is-layout is-layout′ w =
@@ -194,19 +199,29 @@ module _ {M : Type 1} (𝓤 : URA M) (H : Heap 𝓤) (A : Atoms 𝓤) (W : Given
         alloc1 ! (λ l₀. alloc1 ! (λ l₁. alloc1 ! (λ l₂. alloc1 ! (λ l₃. alloc1 ! (λ l₄. alloc1 ! (λ l₅. alloc1 ! (λ l₆. alloc1 ! (λ l₇. alloc0 ! $ params1 ! $
         pass1 ! (init ! 12 refl wt) $ pass1 ! (init ! 10 refl wt′) $ pass0 ! $
         assigns ! (of-opd ! (load ! (from ! (fld ! refl (stop !))) (look-in ! 12 (sub ! 0 refl (whole !))))) (from ! (stop !)) (init ! 8 refl (tt, wt .1 .0)) $
-        assigns ! (of-opd ! (load ! (from ! (fld ! refl (stop !))) (look-in ! 12 (sub ! 1 refl (whole !))))) (from ! (stop !)) (init ! 6 refl (LL.lawful Z.the-type Z′.the-laws 𝓤 H A W .typed (d .shape) _ is-shape .0)) $
-        assigns ! (of-opd ! (load ! (from ! (fld ! refl (stop !))) (look-in ! 12 (sub ! 2 refl (whole !))))) (from ! (stop !)) (init ! 4 refl (LL.lawful L.the-type L′.the-laws 𝓤 H A W .typed (d .layout) _ is-layout .0)) $
+        assigns ! (of-opd ! (load ! (from ! (fld ! refl (stop !))) (look-in ! 12 (sub ! 1 refl (whole !))))) (from ! (stop !))
+        (init ! 6 refl (LL.lawful Z.the-type Z′.the-laws 𝓤 H A W .typed (d .shape) _ is-shape .0)) $
+        assigns ! (of-opd ! (load ! (from ! (fld ! refl (stop !))) (look-in ! 12 (sub ! 2 refl (whole !))))) (from ! (stop !))
+        (init ! 4 refl (LL.lawful L.the-type L′.the-laws 𝓤 H A W .typed (d .layout) _ is-layout .0)) $
         assigns ! (of-opd ! (load ! (from ! (fld ! refl (stop !))) (look-in ! 10 (sub ! 0 refl (whole !))))) (from ! (stop !)) (init ! 2 refl (tt, wt′ .1 .0)) $
-        assigns ! (of-opd ! (load ! (from ! (fld ! refl (stop !))) (look-in ! 10 (sub ! 2 refl (whole !))))) (from ! (stop !)) (init ! 0 refl (LL.lawful L.the-type L′.the-laws 𝓤 H A W .typed (e .layout) _ is-layout′ .0)) $
+        assigns ! (of-opd ! (load ! (from ! (fld ! refl (stop !))) (look-in ! 10 (sub ! 2 refl (whole !))))) (from ! (stop !))
+        (init ! 0 refl (LL.lawful L.the-type L′.the-laws 𝓤 H A W .typed (e .layout) _ is-layout′ .0)) $
         move ! (16 ∷ []) $ use1 W (raw (Core 𝓤 H A mem run .pre to) ⊛ ‵ Kept) (apart w is-shape is-layout is-layout′) $ split ! $
-        calls-at ! fm (Core 𝓤 H A mem run) known to (and-then ! (load ! (from ! (stop !)) (look ! 10 refl)) (and-then ! (load ! (from ! (stop !)) (look ! 8 refl)) (and-then ! (load ! (from ! (stop !)) (look ! 6 refl)) (and-then ! (load ! (from ! (stop !)) (look ! 4 refl)) (and-then ! (load ! (from ! (stop !)) (look ! 2 refl)) (no-more !)))))) (λ u.
-        use1 W (later (some (λ (r : Scored). ((‵ (flft κ q) ⊛ ‵ (flft κ′ q′) ⊛ ‵ ftrue) ⊛ ‵ (E.the-row .own r (u ∷ []))) ⊛ raw (ensured 𝓤 H A core.ended (core.clauses 𝓤 H A mem run) κs a tt r)))) (id⊢ 𝓤 _) $ await ! tt $ pick ! (λ r.
+        calls-at ! fm (Core 𝓤 H A mem run) known to
+        (and-then ! (load ! (from ! (stop !)) (look ! 10 refl)) (and-then ! (load ! (from ! (stop !)) (look ! 8 refl))
+        (and-then ! (load ! (from ! (stop !)) (look ! 6 refl)) (and-then ! (load ! (from ! (stop !)) (look ! 4 refl))
+        (and-then ! (load ! (from ! (stop !)) (look ! 2 refl)) (no-more !)))))) (λ u.
+        use1 W (later (some (λ (r : Scored). ((‵ (flft κ q) ⊛ ‵ (flft κ′ q′) ⊛ ‵ ftrue) ⊛ ‵ (E.the-row .own r (u ∷ [])))
+        ⊛ raw (ensured 𝓤 H A core.ended (core.clauses 𝓤 H A mem run) κs a tt r)))) (id⊢ 𝓤 _) $
+        await ! tt $ pick ! (λ r.
         split ! $ move ! (1 ∷ []) $ use1 W (raw (fact 𝓤 (Found r reshaped))) (said r) $ heard ! (Found r reshaped) (λ s. split ! $ move ! (1 ∷ []) $
         -- [the result; the tokens; what the parameters own; _7; …; _1; …; room for _0; …]
         peeks ! E.the-row (Is E.the-row) (shows 𝓤 H A E.the-row) r (u ∷ []) (λ is.
         land ! (from ! (stop !)) (init ! 17 refl (EL.lawful E.the-type E′.the-laws 𝓤 H A W tt .typed r _ is .0)) $
-        returns ! (look ! 17 refl) $ forget ! 3 refl $ forget ! 5 refl $ forget ! 7 refl $ forget ! 9 refl $ forget ! 11 refl $ forget ! 13 refl $ forget ! 15 refl $ forget ! 17 refl $
-        move ! (17 ∷ 18 ∷ []) $ free1 ! $ move ! (15 ∷ 16 ∷ []) $ free1 ! $ move ! (13 ∷ 14 ∷ []) $ free1 ! $ move ! (11 ∷ 12 ∷ []) $ free1 ! $ move ! (9 ∷ 10 ∷ []) $ free1 ! $
+        returns ! (look ! 17 refl) $ forget ! 3 refl $ forget ! 5 refl $ forget ! 7 refl $ forget ! 9 refl $ forget ! 11 refl $ forget ! 13 refl $
+        forget ! 15 refl $ forget ! 17 refl $
+        move ! (17 ∷ 18 ∷ []) $ free1 ! $ move ! (15 ∷ 16 ∷ []) $ free1 ! $ move ! (13 ∷ 14 ∷ []) $ free1 ! $ move ! (11 ∷ 12 ∷ []) $ free1 ! $
+        move ! (9 ∷ 10 ∷ []) $ free1 ! $
         move ! (7 ∷ 8 ∷ []) $ free1 ! $ move ! (5 ∷ 6 ∷ []) $ free1 ! $ move ! (3 ∷ 4 ∷ []) $ free1 ! $ free0 ! $
         by ! (exits r u (subst (λ (z : Shape). Found r (frameOf z (e .layout) (now (e .bytes)))) (w .one-shape) s))))))))))))))
 

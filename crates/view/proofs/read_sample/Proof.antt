@@ -71,7 +71,8 @@ module _ {M : Type 1} (𝓤 : URA M) (H : Heap 𝓤) (A : Atoms 𝓤) (mem : Mem
   abbrev Sample : Contract 𝓤
   Sample = tripleOf 𝓤 H A sample.signature (sample.spec 𝓤 H A mem run)
 
-module _ {M : Type 1} (𝓤 : URA M) (H : Heap 𝓤) (A : Atoms 𝓤) (W : Given 𝓤 H A) (mem : Memory → SProp 𝓤) (run : Routine → Fun 𝓤) (κ : Lft) (q : Share) (s : RefT (List ℕ)) (z : Shape) (l : Layout) (p : Place) where
+module _ {M : Type 1} (𝓤 : URA M) (H : Heap 𝓤) (A : Atoms 𝓤) (W : Given 𝓤 H A) (mem : Memory → SProp 𝓤) (run : Routine
+    → Fun 𝓤) (κ : Lft) (q : Share) (s : RefT (List ℕ)) (z : Shape) (l : Layout) (p : Place) where
   abbrev Args : Type 0
   Args = RefT (List ℕ) × (Shape × (Layout × (Place × Unit {0})))
 
@@ -100,7 +101,8 @@ module _ {M : Type 1} (𝓤 : URA M) (H : Heap 𝓤) (A : Atoms 𝓤) (W : Given
   abbrev to-sample : FrameView → Val → Sample 𝓤 H A mem run .Ghost
   to-sample r u = (((κ, tt), (q, tt), tt, (r, (p, tt)), (u ∷ [], (placeValue p ∷ [], tt))), tt)
 
-  goes-sample : (r : FrameView) (u : Val) → Within r p → Is P.the-row p (placeValue p ∷ []) → ent 𝓤 (⋆ 𝓤 H A (‵ (Viewed (κ, tt) .own r (u ∷ [])) ∷ (‵ (flft κ q) ⊛ ‵ ftrue) ∷ [])) (Sample 𝓤 H A mem run .pre (to-sample r u))
+  goes-sample : (r : FrameView) (u : Val) → Within r p → Is P.the-row p (placeValue p ∷ [])
+      → ent 𝓤 (⋆ 𝓤 H A (‵ (Viewed (κ, tt) .own r (u ∷ [])) ∷ (‵ (flft κ q) ⊛ ‵ ftrue) ∷ [])) (Sample 𝓤 H A mem run .pre (to-sample r u))
   goes-sample r u w is-place =
       qed W (‵ (Viewed (κ, tt) .own r (u ∷ [])) ∷ (‵ (flft κ q) ⊛ ‵ ftrue) ∷ []) ∵ says ! w $ move ! (1 ∷ []) $ frame ! $
       nothing ! $ owned ! P.the-row (Is P.the-row) (LL.makes P.the-type P′.the-plain 𝓤 H A) p _ is-place $ fjoin ! $ move ! (1 ∷ 0 ∷ []) $ fjoin ! $ done !
@@ -114,11 +116,14 @@ module _ {M : Type 1} (𝓤 : URA M) (H : Heap 𝓤) (A : Atoms 𝓤) (W : Given
   exits : (t : ℕ) (u : Val) → t ≡ At (viewed s z l) → ent 𝓤 (⋆ 𝓤 H A (‵ (u64 .own t (u ∷ [])) ∷ (‵ (flft κ q) ⊛ ‵ ftrue) ∷ ‵ Kept ∷ [])) (Post u)
   exits t u e =
       qed W (‵ (u64 .own t (u ∷ [])) ∷ (‵ (flft κ q) ⊛ ‵ ftrue) ∷ ‵ Kept ∷ []) ∵
-      suffices ! _ (ends-at 𝓤 H A reads.ended stayed (reads.clauses 𝓤 H A mem run) W (((κ, tt), (q, tt), tt, a, at), tt) u t (tt, (tt, (tt, (tt, tt)))) (tt, (tt, (tt, (tt, tt))))) $ says ! e $
+      suffices ! _ (ends-at 𝓤 H A reads.ended stayed (reads.clauses 𝓤 H A mem run) W (((κ, tt), (q, tt), tt, a, at), tt) u t (tt, (tt, (tt, (tt, tt)))) (tt, (tt, (tt, (tt, tt))))) $
+      says ! e $
       move ! (1 ∷ []) $ frame ! $ move ! (1 ∷ []) $ frame ! $ done !
 
-  module _ (C : Calls 𝓤 H) (Λ : Loops 𝓤 H) (fm : FmC 𝓤 H (W .laws) C) (known-view : Triple 𝓤 (C #view·view) (View 𝓤 H A mem run)) (known-sample : Triple 𝓤 (C #view·sample) (Sample 𝓤 H A mem run)) where
-    walk : Is (ShrSlice (named 0) κ u8) s (sliceValue s ∷ []) → Is Z.the-row z (shapeValue z ∷ []) → Is L.the-row l (layoutValue l ∷ []) → Is P.the-row p (placeValue p ∷ []) → Within (viewed s z l) p
+  module _ (C : Calls 𝓤 H) (Λ : Loops 𝓤 H) (fm : FmC 𝓤 H (W .laws) C) (known-view : Triple 𝓤 (C #view·view) (View 𝓤 H A mem run))
+      (known-sample : Triple 𝓤 (C #view·sample) (Sample 𝓤 H A mem run)) where
+    walk : Is (ShrSlice (named 0) κ u8) s (sliceValue s ∷ []) → Is Z.the-row z (shapeValue z ∷ []) → Is L.the-row l (layoutValue l ∷ [])
+        → Is P.the-row p (placeValue p ∷ []) → Within (viewed s z l) p
         → ent 𝓤 (onEntry 𝓤 H A reads.signature (κ, tt) (q, tt) a at) (WpFn 𝓤 H C Λ code.function (sliceValue s ∷ shapeValue z ∷ layoutValue l ∷ placeValue p ∷ []) Post)
     walk is-slice is-shape is-layout is-place w =
         qed W (raw (onEntry 𝓤 H A reads.signature (κ, tt) (q, tt) a at) ∷ []) ∵ enter ! C Λ code.function (sliceValue s ∷ shapeValue z ∷ layoutValue l ∷ placeValue p ∷ []) _ $
@@ -128,25 +133,35 @@ module _ {M : Type 1} (𝓤 : URA M) (H : Heap 𝓤) (A : Atoms 𝓤) (W : Given
         pass1 ! (init ! 4 refl (LL.lawful L.the-type L′.the-laws 𝓤 H A W .typed l _ is-layout .0)) $
         pass1 ! (init ! 2 refl (LL.lawful P.the-type P′.the-laws 𝓤 H A W .typed p _ is-place .0)) $ pass0 ! $
         move ! (12 ∷ []) $ use1 W (raw (View 𝓤 H A mem run .pre (to-view 𝓤 H A mem run κ q s z l)) ⊛ ‵ Kept) (goes-made is-shape is-layout) $ split ! $
-        calls-at ! fm (View 𝓤 H A mem run) known-view (to-view 𝓤 H A mem run κ q s z l) (and-then ! (load ! (from ! (stop !)) (look ! 10 refl)) (and-then ! (load ! (from ! (stop !)) (look ! 8 refl)) (and-then ! (load ! (from ! (stop !)) (look ! 6 refl)) (no-more !)))) (λ u.
-        use1 W (later (some (λ (r : FrameView). ((‵ (flft κ q) ⊛ ‵ ftrue) ⊛ ‵ (Viewed (κ, tt) .own r (u ∷ []))) ⊛ raw (ensured 𝓤 H A view.ended (view.clauses 𝓤 H A mem run) (κ, tt) (args s z l) tt r)))) (id⊢ 𝓤 _) $ await ! tt $ pick ! (λ r.
-        split ! $ move ! (1 ∷ []) $ use1 W (raw (fact 𝓤 (Made s z l r))) (view-said 𝓤 H A mem run κ s z l r) $ heard ! (Made s z l r) (λ e. split ! $ move ! (1 ∷ []) $
+        calls-at ! fm (View 𝓤 H A mem run) known-view (to-view 𝓤 H A mem run κ q s z l)
+        (and-then ! (load ! (from ! (stop !)) (look ! 10 refl)) (and-then ! (load ! (from ! (stop !)) (look ! 8 refl))
+        (and-then ! (load ! (from ! (stop !)) (look ! 6 refl)) (no-more !)))) (λ u.
+        use1 W (later (some (λ (r : FrameView). ((‵ (flft κ q) ⊛ ‵ ftrue) ⊛ ‵ (Viewed (κ, tt) .own r (u ∷ [])))
+        ⊛ raw (ensured 𝓤 H A view.ended (view.clauses 𝓤 H A mem run) (κ, tt) (args s z l) tt r)))) (id⊢ 𝓤 _) $
+        await ! tt $ pick ! (λ r.
+        split ! $ move ! (1 ∷ []) $ use1 W (raw (fact 𝓤 (Made s z l r))) (view-said 𝓤 H A mem run κ s z l r) $ heard ! (Made s z l r) (λ e. split ! $
+        move ! (1 ∷ []) $
         -- [what the view owns; the token; what the parameters own; room for _5; …; _4; …; room for _0; …]
         peeks ! (Viewed (κ, tt)) (Is (Viewed (κ, tt))) (shows 𝓤 H A (Viewed (κ, tt))) r (u ∷ []) (λ is.
         land ! (from ! (stop !)) (init ! 3 refl (LL.lawful (F.the-type (localLft κ)) (F′.the-laws (localLft κ)) 𝓤 H A W .typed r _ is .0)) $
         use2 W (raw (Sample 𝓤 H A mem run .pre (to-sample r u))) (goes-sample r u (subst (λ (x : FrameView). Within x p) (sym (made-is s z l r e)) w) is-place) $
-        calls-at ! fm (Sample 𝓤 H A mem run) known-sample (to-sample r u) (and-then ! (load ! (from ! (stop !)) (look ! 2 refl)) (and-then ! (load ! (from ! (stop !)) (look ! 4 refl)) (no-more !))) (λ u′.
-        use1 W (later (some (λ (t : ℕ). ((‵ (flft κ q) ⊛ ‵ ftrue) ⊛ ‵ (u64 .own t (u′ ∷ []))) ⊛ raw (ensured 𝓤 H A sample.ended (sample.clauses 𝓤 H A mem run) (κ, tt) (r, (p, tt)) tt t)))) (id⊢ 𝓤 _) $ await ! tt $ pick ! (λ t.
+        calls-at ! fm (Sample 𝓤 H A mem run) known-sample (to-sample r u)
+        (and-then ! (load ! (from ! (stop !)) (look ! 2 refl)) (and-then ! (load ! (from ! (stop !)) (look ! 4 refl)) (no-more !))) (λ u′.
+        use1 W (later (some (λ (t : ℕ). ((‵ (flft κ q) ⊛ ‵ ftrue) ⊛ ‵ (u64 .own t (u′ ∷ [])))
+        ⊛ raw (ensured 𝓤 H A sample.ended (sample.clauses 𝓤 H A mem run) (κ, tt) (r, (p, tt)) tt t)))) (id⊢ 𝓤 _) $
+        await ! tt $ pick ! (λ t.
         split ! $ move ! (1 ∷ []) $ use1 W (raw (fact 𝓤 (t ≡ At r))) (sample-said r t) $ heard ! (t ≡ At r) (λ e′. split ! $ move ! (1 ∷ []) $
         -- [the result; the token; what the parameters own; _5; …; _4; …; room for _0; …]
         peeks ! u64 (Is u64) (shows 𝓤 H A u64) t (u′ ∷ []) (λ is′.
         land ! (from ! (stop !)) (init ! 13 refl (uint-lawful 𝓤 H A W w64 .typed t _ is′ .0)) $
         returns ! (look ! 13 refl) $ forget ! 3 refl $ forget ! 5 refl $ forget ! 7 refl $ forget ! 9 refl $ forget ! 11 refl $ forget ! 13 refl $
-        move ! (13 ∷ 14 ∷ []) $ free1 ! $ move ! (11 ∷ 12 ∷ []) $ free1 ! $ move ! (9 ∷ 10 ∷ []) $ free1 ! $ move ! (7 ∷ 8 ∷ []) $ free1 ! $ move ! (5 ∷ 6 ∷ []) $ free1 ! $ move ! (3 ∷ 4 ∷ []) $ free1 ! $ free0 ! $
+        move ! (13 ∷ 14 ∷ []) $ free1 ! $ move ! (11 ∷ 12 ∷ []) $ free1 ! $ move ! (9 ∷ 10 ∷ []) $ free1 ! $ move ! (7 ∷ 8 ∷ []) $ free1 ! $
+        move ! (5 ∷ 6 ∷ []) $ free1 ! $ move ! (3 ∷ 4 ∷ []) $ free1 ! $ free0 ! $
         by ! (exits t u′ (e′ ∙ ap At (made-is s z l r e)))))))))))))))))
 
 module _ {M : Type 1} (𝓤 : URA M) (H : Heap 𝓤) (A : Atoms 𝓤) (W : Given 𝓤 H A) (mem : Memory → SProp 𝓤) (run : Routine → Fun 𝓤) where
-  reads-walks : (C : Calls 𝓤 H) (Λ : Loops 𝓤 H) → FmC 𝓤 H (W .laws) C → Triple 𝓤 (C #view·view) (View 𝓤 H A mem run) → Triple 𝓤 (C #view·sample) (Sample 𝓤 H A mem run)
+  reads-walks : (C : Calls 𝓤 H) (Λ : Loops 𝓤 H) → FmC 𝓤 H (W .laws) C → Triple 𝓤 (C #view·view) (View 𝓤 H A mem run)
+      → Triple 𝓤 (C #view·sample) (Sample 𝓤 H A mem run)
       → Walks 𝓤 H A reads.ended stayed (WpFn 𝓤 H C Λ code.function) (reads.clauses 𝓤 H A mem run)
   reads-walks C Λ fm known-view known-sample = walked 𝓤 H A reads.ended stayed (reads.clauses 𝓤 H A mem run) (WpFn 𝓤 H C Λ code.function)
       (λ κs. (slice-vals, (LL.vals Z.the-type Z′.the-laws, (LL.vals L.the-type L′.the-laws, (LL.vals P.the-type P′.the-laws, tt)))))
@@ -158,8 +173,13 @@ reads-meets : {M : Type 1} (𝓤 : URA M) (H : Heap 𝓤) (A : Atoms 𝓤) (W : 
     → Triple 𝓤 (𝓣 .C #view·view) (View 𝓤 H A mem run) → Triple 𝓤 (𝓣 .C #view·sample) (Sample 𝓤 H A mem run)
     → Meets 𝓤 H A reads.signature (WpFn 𝓤 H (𝓣 .C) (𝓣 .Λ) code.function) (reads.spec 𝓤 H A mem run)
 reads-meets 𝓤 H A W mem run 𝓣 known-view known-sample =
-    walk-meets 𝓤 H A reads.ended stayed W
-    (goes-none-slice 𝓤 H A W 1 (0 ∷ []) tt (plain (λ _. u8)) yes, (goes-none 𝓤 H A W 1 (λ _. Z.the-row) yes (λ κs x f. refl), (goes-none 𝓤 H A W 1 (λ _. L.the-row) yes (λ κs x f. refl), (goes-none 𝓤 H A W 1 (λ _. P.the-row) yes (λ κs x f. refl), tt))))
+    walk-meets 𝓤 H A reads.ended stayed W (
+      goes-none-slice 𝓤 H A W 1 (0 ∷ []) tt (plain (λ _. u8)) yes,
+      (
+        goes-none 𝓤 H A W 1 (λ _. Z.the-row) yes (λ κs x f. refl),
+        (goes-none 𝓤 H A W 1 (λ _. L.the-row) yes (λ κs x f. refl), (goes-none 𝓤 H A W 1 (λ _. P.the-row) yes (λ κs x f. refl), tt)),
+      ),
+    )
     (reads.clauses 𝓤 H A mem run) (WpFn 𝓤 H (𝓣 .C) (𝓣 .Λ) code.function) (WpFn-mono 𝓤 H (W .laws) 𝓣 code.function)
     (reads-walks 𝓤 H A W mem run (𝓣 .C) (𝓣 .Λ) (fmOf 𝓤 H (W .laws) 𝓣) known-view known-sample)
 

@@ -73,7 +73,8 @@ module _ {M : Type 1} (𝓤 : URA M) (H : Heap 𝓤) (A : Atoms 𝓤) (mem : Mem
   abbrev Core : Contract 𝓤
   Core = tripleOf 𝓤 H A core.signature (core.spec 𝓤 H A mem run)
 
-module _ {M : Type 1} (𝓤 : URA M) (H : Heap 𝓤) (A : Atoms 𝓤) (W : Given 𝓤 H A) (mem : Memory → SProp 𝓤) (run : Routine → Fun 𝓤) (κ : Lft) (q : Share) (d : FrameView) (p : Place) where
+module _ {M : Type 1} (𝓤 : URA M) (H : Heap 𝓤) (A : Atoms 𝓤) (W : Given 𝓤 H A) (mem : Memory → SProp 𝓤) (run : Routine
+    → Fun 𝓤) (κ : Lft) (q : Share) (d : FrameView) (p : Place) where
   -- the view's type and laws, and d's fields' values
   abbrev D : Declared
   D = F.the-type (namedLft 1 0 tt (κ, tt))
@@ -117,10 +118,12 @@ module _ {M : Type 1} (𝓤 : URA M) (H : Heap 𝓤) (A : Atoms 𝓤) (W : Given
   to = (((κ, tt), (q, tt), tt, a, passed), tt)
 
   asked : Within d p → ent 𝓤 (onEntry 𝓤 H A core.signature (κ, tt) (q, tt) a passed) (Core 𝓤 H A mem run .pre to)
-  asked w = qed W ((‵ (flft κ q) ⊛ ‵ ftrue) ∷ ‵ (owns (ShrSlice (named 0) κ u8 ∷ Z.the-row ∷ L.the-row ∷ P.the-row ∷ []) a passed) ∷ []) ∵ says ! w $ frame ! $ done !
+  asked w = qed W ((‵ (flft κ q) ⊛ ‵ ftrue) ∷ ‵ (owns (ShrSlice (named 0) κ u8 ∷ Z.the-row ∷ L.the-row ∷ P.the-row ∷ []) a passed) ∷ []) ∵ says ! w $
+      frame ! $ done !
 
   -- what the view owns gives what the callee asks, and is kept
-  apart : Within d p → Is Z.the-row (d .shape) (shapeValue (d .shape) ∷ []) → Is L.the-row (d .layout) (layoutValue (d .layout) ∷ []) → Is P.the-row p (placeValue p ∷ [])
+  apart : Within d p → Is Z.the-row (d .shape) (shapeValue (d .shape) ∷ []) → Is L.the-row (d .layout) (layoutValue (d .layout) ∷ [])
+      → Is P.the-row p (placeValue p ∷ [])
       → ent 𝓤 (onEntry 𝓤 H A sample.signature (κ, tt) (q, tt) (d, (p, tt)) at) (sep 𝓤 (Core 𝓤 H A mem run .pre to) (sem 𝓤 H A Kept))
   apart w is-shape is-layout is-place =
       qed W ((‵ (flft κ q) ⊛ ‵ ftrue) ∷ ‵ Kept ∷ []) ∵
@@ -140,28 +143,36 @@ module _ {M : Type 1} (𝓤 : URA M) (H : Heap 𝓤) (A : Atoms 𝓤) (W : Given
   exits : (r : ℕ) (u : Val) → r ≡ found → ent 𝓤 (⋆ 𝓤 H A (‵ (u64 .own r (u ∷ [])) ∷ (‵ (flft κ q) ⊛ ‵ ftrue) ∷ ‵ Kept ∷ [])) (Post u)
   exits r u e =
       qed W (‵ (u64 .own r (u ∷ [])) ∷ (‵ (flft κ q) ⊛ ‵ ftrue) ∷ ‵ Kept ∷ []) ∵
-      suffices ! _ (ends-at 𝓤 H A sample.ended stayed (sample.clauses 𝓤 H A mem run) W (((κ, tt), (q, tt), tt, (d, (p, tt)), at), tt) u r (tt, (tt, tt)) (tt, (tt, tt))) $ says ! e $
+      suffices ! _ (ends-at 𝓤 H A sample.ended stayed (sample.clauses 𝓤 H A mem run) W (((κ, tt), (q, tt), tt, (d, (p, tt)), at), tt) u r (tt, (tt, tt)) (tt, (tt, tt))) $
+      says ! e $
       move ! (1 ∷ []) $ frame ! $ move ! (1 ∷ []) $ frame ! $ done !
 
   module _ (C : Calls 𝓤 H) (Λ : Loops 𝓤 H) (fm : FmC 𝓤 H (W .laws) C) (known : Triple 𝓤 (C #view·sample-at) (Core 𝓤 H A mem run)) where
-    walk : Holds (hasTy (F′.mir (named 0)) mach) × WT mach → Is Z.the-row (d .shape) (shapeValue (d .shape) ∷ []) → Is L.the-row (d .layout) (layoutValue (d .layout) ∷ []) → Is P.the-row p (placeValue p ∷ []) → Within d p
+    walk : Holds (hasTy (F′.mir (named 0)) mach) × WT mach → Is Z.the-row (d .shape) (shapeValue (d .shape) ∷ [])
+        → Is L.the-row (d .layout) (layoutValue (d .layout) ∷ []) → Is P.the-row p (placeValue p ∷ []) → Within d p
         → ent 𝓤 (onEntry 𝓤 H A sample.signature (κ, tt) (q, tt) (d, (p, tt)) at) (WpFn 𝓤 H C Λ code.function (mach ∷ placeValue p ∷ []) Post)
     walk wt is-shape is-layout is-place w =
         qed W (raw (onEntry 𝓤 H A sample.signature (κ, tt) (q, tt) (d, (p, tt)) at) ∷ []) ∵ enter ! C Λ code.function (mach ∷ placeValue p ∷ []) _ $
         alloc1 ! (λ l₀. alloc1 ! (λ l₁. alloc1 ! (λ l₂. alloc1 ! (λ l₃. alloc1 ! (λ l₄. alloc1 ! (λ l₅. alloc0 ! $ params1 ! $
         pass1 ! (init ! 8 refl wt) $ pass1 ! (init ! 6 refl (LL.lawful P.the-type P′.the-laws 𝓤 H A W .typed p _ is-place .0)) $ pass0 ! $
         assigns ! (of-opd ! (load ! (from ! (fld ! refl (stop !))) (look-in ! 8 (sub ! 0 refl (whole !))))) (from ! (stop !)) (init ! 4 refl (tt, wt .1 .0)) $
-        assigns ! (of-opd ! (load ! (from ! (fld ! refl (stop !))) (look-in ! 8 (sub ! 1 refl (whole !))))) (from ! (stop !)) (init ! 2 refl (LL.lawful Z.the-type Z′.the-laws 𝓤 H A W .typed (d .shape) _ is-shape .0)) $
-        assigns ! (of-opd ! (load ! (from ! (fld ! refl (stop !))) (look-in ! 8 (sub ! 2 refl (whole !))))) (from ! (stop !)) (init ! 0 refl (LL.lawful L.the-type L′.the-laws 𝓤 H A W .typed (d .layout) _ is-layout .0)) $
+        assigns ! (of-opd ! (load ! (from ! (fld ! refl (stop !))) (look-in ! 8 (sub ! 1 refl (whole !))))) (from ! (stop !))
+        (init ! 2 refl (LL.lawful Z.the-type Z′.the-laws 𝓤 H A W .typed (d .shape) _ is-shape .0)) $
+        assigns ! (of-opd ! (load ! (from ! (fld ! refl (stop !))) (look-in ! 8 (sub ! 2 refl (whole !))))) (from ! (stop !))
+        (init ! 0 refl (LL.lawful L.the-type L′.the-laws 𝓤 H A W .typed (d .layout) _ is-layout .0)) $
         move ! (12 ∷ []) $ use1 W (raw (Core 𝓤 H A mem run .pre to) ⊛ ‵ Kept) (apart w is-shape is-layout is-place) $ split ! $
-        calls-at ! fm (Core 𝓤 H A mem run) known to (and-then ! (load ! (from ! (stop !)) (look ! 6 refl)) (and-then ! (load ! (from ! (stop !)) (look ! 4 refl)) (and-then ! (load ! (from ! (stop !)) (look ! 2 refl)) (and-then ! (load ! (from ! (stop !)) (look ! 8 refl)) (no-more !))))) (λ u.
-        use1 W (later (some (λ (r : ℕ). ((‵ (flft κ q) ⊛ ‵ ftrue) ⊛ ‵ (u64 .own r (u ∷ []))) ⊛ raw (ensured 𝓤 H A core.ended (core.clauses 𝓤 H A mem run) (κ, tt) a tt r)))) (id⊢ 𝓤 _) $ await ! tt $ pick ! (λ r.
+        calls-at ! fm (Core 𝓤 H A mem run) known to
+        (and-then ! (load ! (from ! (stop !)) (look ! 6 refl)) (and-then ! (load ! (from ! (stop !)) (look ! 4 refl))
+        (and-then ! (load ! (from ! (stop !)) (look ! 2 refl)) (and-then ! (load ! (from ! (stop !)) (look ! 8 refl)) (no-more !))))) (λ u.
+        use1 W (later (some (λ (r : ℕ). ((‵ (flft κ q) ⊛ ‵ ftrue) ⊛ ‵ (u64 .own r (u ∷ []))) ⊛ raw (ensured 𝓤 H A core.ended (core.clauses 𝓤 H A mem run) (κ, tt) a tt r)))) (id⊢ 𝓤 _) $
+        await ! tt $ pick ! (λ r.
         split ! $ move ! (1 ∷ []) $ use1 W (raw (fact 𝓤 (r ≡ found))) (said r) $ heard ! (r ≡ found) (λ e. split ! $ move ! (1 ∷ []) $
         -- [the result; the token; what the parameters own; _5; …; _4; …; _3; …; _2; …; _1; …; room for _0; …]
         peeks ! u64 (Is u64) (shows 𝓤 H A u64) r (u ∷ []) (λ is.
         land ! (from ! (stop !)) (init ! 13 refl (uint-lawful 𝓤 H A W w64 .typed r _ is .0)) $
         returns ! (look ! 13 refl) $ forget ! 3 refl $ forget ! 5 refl $ forget ! 7 refl $ forget ! 9 refl $ forget ! 11 refl $ forget ! 13 refl $
-        move ! (13 ∷ 14 ∷ []) $ free1 ! $ move ! (11 ∷ 12 ∷ []) $ free1 ! $ move ! (9 ∷ 10 ∷ []) $ free1 ! $ move ! (7 ∷ 8 ∷ []) $ free1 ! $ move ! (5 ∷ 6 ∷ []) $ free1 ! $ move ! (3 ∷ 4 ∷ []) $ free1 ! $ free0 ! $ by ! (exits r u e)))))))))))
+        move ! (13 ∷ 14 ∷ []) $ free1 ! $ move ! (11 ∷ 12 ∷ []) $ free1 ! $ move ! (9 ∷ 10 ∷ []) $ free1 ! $ move ! (7 ∷ 8 ∷ []) $ free1 ! $
+        move ! (5 ∷ 6 ∷ []) $ free1 ! $ move ! (3 ∷ 4 ∷ []) $ free1 ! $ free0 ! $ by ! (exits r u e)))))))))))
 
 module _ {M : Type 1} (𝓤 : URA M) (H : Heap 𝓤) (A : Atoms 𝓤) (W : Given 𝓤 H A) (mem : Memory → SProp 𝓤) (run : Routine → Fun 𝓤) where
   sample-walks : (C : Calls 𝓤 H) (Λ : Loops 𝓤 H) → FmC 𝓤 H (W .laws) C → Triple 𝓤 (C #view·sample-at) (Core 𝓤 H A mem run)

@@ -50,7 +50,8 @@ use Rattle.view.proofs.view.Code as code
 abbrev stayed : Stays (view.ended .signature .params) (view.ended .kept)
 stayed = (stay-none-slice (0 ∷ []) tt (plain (λ _. u8)) yes, (stay-none (λ _. Z.the-row) yes, (stay-none (λ _. L.the-row) yes, tt)))
 
-module _ {M : Type 1} (𝓤 : URA M) (H : Heap 𝓤) (A : Atoms 𝓤) (W : Given 𝓤 H A) (mem : Memory → SProp 𝓤) (run : Routine → Fun 𝓤) (κ : Lft) (q : Share) (s : RefT (List ℕ)) (z : Shape) (l : Layout) where
+module _ {M : Type 1} (𝓤 : URA M) (H : Heap 𝓤) (A : Atoms 𝓤) (W : Given 𝓤 H A) (mem : Memory → SProp 𝓤) (run : Routine
+    → Fun 𝓤) (κ : Lft) (q : Share) (s : RefT (List ℕ)) (z : Shape) (l : Layout) where
   abbrev α : NamedLft
   α = namedLft 1 0 tt (κ, tt)
 
@@ -85,7 +86,8 @@ module _ {M : Type 1} (𝓤 : URA M) (H : Heap 𝓤) (A : Atoms 𝓤) (W : Given
   exits : ent 𝓤 (⋆ 𝓤 H A (‵ Made ∷ ‵ (owns Rows a at) ∷ (‵ (flft κ q) ⊛ ‵ ftrue) ∷ [])) (Post mach)
   exits =
       qed W (‵ Made ∷ ‵ (owns Rows a at) ∷ (‵ (flft κ q) ⊛ ‵ ftrue) ∷ []) ∵
-      suffices ! _ (ends-at 𝓤 H A view.ended stayed (view.clauses 𝓤 H A mem run) W (((κ, tt), (q, tt), tt, a, at), tt) mach made (tt, (tt, (tt, tt))) (tt, (tt, (tt, tt)))) $ says ! (refl, refl, refl) $
+      suffices ! _ (ends-at 𝓤 H A view.ended stayed (view.clauses 𝓤 H A mem run) W (((κ, tt), (q, tt), tt, a, at), tt) mach made (tt, (tt, (tt, tt))) (tt, (tt, (tt, tt)))) $
+      says ! (refl, refl, refl) $
       move ! (2 ∷ []) $ frame ! $ move ! (1 ∷ []) $ frame ! $ done !
 
   module _ (C : Calls 𝓤 H) (Λ : Loops 𝓤 H) where
@@ -93,9 +95,11 @@ module _ {M : Type 1} (𝓤 : URA M) (H : Heap 𝓤) (A : Atoms 𝓤) (W : Given
         → ent 𝓤 (onEntry 𝓤 H A view.signature (κ, tt) (q, tt) a at) (WpFn 𝓤 H C Λ code.function (sliceValue s ∷ shapeValue z ∷ layoutValue l ∷ []) Post)
     walk is-slice is-shape is-layout =
         qed W ((‵ (flft κ q) ⊛ ‵ ftrue) ∷ ‵ (owns Rows a at) ∷ []) ∵
-        move ! (1 ∷ []) $ fsplit ! $ use1 W (‵ Own ⊛ ‵ Own) (shr-slice-copy 𝓤 H A W (named 0) κ u8 .twice s (sliceValue s ∷ [])) $ split ! $ move ! (0 ∷ 2 ∷ []) $ fjoin ! $ move ! (1 ∷ []) $
+        move ! (1 ∷ []) $ fsplit ! $ use1 W (‵ Own ⊛ ‵ Own) (shr-slice-copy 𝓤 H A W (named 0) κ u8 .twice s (sliceValue s ∷ [])) $ split ! $
+        move ! (0 ∷ 2 ∷ []) $ fjoin ! $ move ! (1 ∷ []) $
         -- [what bytes owns; what the parameters own; the token]: what the fields own together is what the view owns
-        nothing ! $ owned ! L.the-row (Is L.the-row) (LL.makes L.the-type L′.the-plain 𝓤 H A) l _ is-layout $ fjoin ! $ owned ! Z.the-row (Is Z.the-row) (LL.makes Z.the-type Z′.the-plain 𝓤 H A) z _ is-shape $ fjoin ! $
+        nothing ! $ owned ! L.the-row (Is L.the-row) (LL.makes L.the-type L′.the-plain 𝓤 H A) l _ is-layout $ fjoin ! $
+        owned ! Z.the-row (Is Z.the-row) (LL.makes Z.the-type Z′.the-plain 𝓤 H A) z _ is-shape $ fjoin ! $
         move ! (1 ∷ 0 ∷ []) $ fjoin ! $
         use1 W {i = ‵ (all-own (F.the-type α .parts) (F′.the-laws α) a)} (‵ Made) (own-shut 𝓤 H A W (F.the-type α) (F′.the-laws α) a) $
         peeks ! (F.the-row α) (Is (F.the-row α)) (shows 𝓤 H A (F.the-row α)) made (mach ∷ []) (λ is.
@@ -104,7 +108,9 @@ module _ {M : Type 1} (𝓤 : URA M) (H : Heap 𝓤) (A : Atoms 𝓤) (W : Given
         pass1 ! (init ! 4 refl (shr-slice-lawful 𝓤 H A W (named 0) κ u8 .typed s (sliceValue s ∷ []) is-slice .0)) $
         pass1 ! (init ! 2 refl (LL.lawful Z.the-type Z′.the-laws 𝓤 H A W .typed z _ is-shape .0)) $
         pass1 ! (init ! 0 refl (LL.lawful L.the-type L′.the-laws 𝓤 H A W .typed l _ is-layout .0)) $ pass0 ! $
-        assigns ! (agg ! (and-then ! (load ! (from ! (stop !)) (look ! 4 refl)) (and-then ! (load ! (from ! (stop !)) (look ! 2 refl)) (and-then ! (load ! (from ! (stop !)) (look ! 0 refl)) (no-more !))))) (from ! (stop !))
+        assigns ! (agg !
+        (and-then ! (load ! (from ! (stop !)) (look ! 4 refl)) (and-then ! (load ! (from ! (stop !)) (look ! 2 refl))
+        (and-then ! (load ! (from ! (stop !)) (look ! 0 refl)) (no-more !))))) (from ! (stop !))
         (init ! 6 refl (LL.lawful (F.the-type α) (F′.the-laws α) 𝓤 H A W .typed made _ is .0)) $
         returns ! (look ! 6 refl) $ forget ! 0 refl $ forget ! 2 refl $ forget ! 4 refl $ forget ! 6 refl $
         move ! (6 ∷ 7 ∷ []) $ free1 ! $ move ! (4 ∷ 5 ∷ []) $ free1 ! $ move ! (2 ∷ 3 ∷ []) $ free1 ! $ free1 ! $ free0 ! $ by ! exits)))))
@@ -119,8 +125,13 @@ module _ {M : Type 1} (𝓤 : URA M) (H : Heap 𝓤) (A : Atoms 𝓤) (W : Given
 view-meets : {M : Type 1} (𝓤 : URA M) (H : Heap 𝓤) (A : Atoms 𝓤) → Given 𝓤 H A → (mem : Memory → SProp 𝓤) (run : Routine → Fun 𝓤) (𝓣 : Tables 𝓤 H)
     → Meets 𝓤 H A view.signature (WpFn 𝓤 H (𝓣 .C) (𝓣 .Λ) code.function) (view.spec 𝓤 H A mem run)
 view-meets 𝓤 H A W mem run 𝓣 =
-    walk-meets 𝓤 H A view.ended stayed W
-    (goes-none-slice 𝓤 H A W 1 (0 ∷ []) tt (plain (λ _. u8)) yes, (goes-none 𝓤 H A W 1 (λ _. Z.the-row) yes (λ κs x f. refl), (goes-none 𝓤 H A W 1 (λ _. L.the-row) yes (λ κs x f. refl), tt)))
+    walk-meets 𝓤 H A view.ended stayed W (
+      goes-none-slice 𝓤 H A W 1 (0 ∷ []) tt (plain (λ _. u8)) yes,
+      (
+        goes-none 𝓤 H A W 1 (λ _. Z.the-row) yes (λ κs x f. refl),
+        (goes-none 𝓤 H A W 1 (λ _. L.the-row) yes (λ κs x f. refl), tt),
+      ),
+    )
     (view.clauses 𝓤 H A mem run) (WpFn 𝓤 H (𝓣 .C) (𝓣 .Λ) code.function) (WpFn-mono 𝓤 H (W .laws) 𝓣 code.function) (view-walks 𝓤 H A W mem run (𝓣 .C) (𝓣 .Λ))
 
 pub view-spec : {M : Type 1} → stated.statement M
