@@ -5,9 +5,10 @@ use mathlib.Core.Bool.{Bool, true, false, cond}
 use Prim.Native.Nat.{ℕ, zero, suc, _+_, _*_, _-_, _/_, _%_, _≤_, _<_}
 use native.Mathlib.Nat.{add-zero, add-suc}
 use native.Mathlib.Numerals.{add-one}
-use native.Mathlib.Decide.{ℕ-discrete}
+use native.Mathlib.Decide.{ℕ-discrete, decLt}
 use native.Mathlib.Omega.{arith}
-use lib.Dec.{T, ltb, ltb→lt, lt→ltb, eqb, eqb→eq, eqb-refl}
+use lib.Dec.{T, ltb, ltb→lt, lt→ltb, eqb, eqb→eq, eqb-refl, leb, le→leb}
+use lib.Dec.{leb·zero, leb·suc-zero, leb·suc-suc, eqb·zero-suc, eqb·suc-zero, eqb·suc-suc}
 use lib.Arith.{digits-div, digits-mod}
 use Rattle.arithmetic.specs.Sums.{sumBelow, bothTerms, countBelow}
 use Rattle.arithmetic.proofs.Tests.{cond-true, cond-false}
@@ -227,3 +228,38 @@ count-yes test n e = rw (add-one n, e)
 pub count-no : (test : ℕ → Bool) (n : ℕ) → test n ≡ false → countBelow test (n + 1) ≡ countBelow test n
 unfolding sumBelow
 count-no test n e = rw (add-one n, e) (add-zero (countBelow test n))
+
+-- ---- where each number below n is one of n numbers exactly once, the n numbers are all below n
+
+-- x is one number below n, or n or more
+hit-once : (x n : ℕ) → countBelow (λ k. eqb x k) n + cond (leb n x) 1 0 ≡ 1
+unfolding sumBelow
+hit-once x zero = rw (leb·zero x)
+hit-once x (suc n) = omega (arith, hit-once x n, step x n)
+  where
+    step : (x n : ℕ) → cond (leb n x) 1 0 ≡ cond (eqb x n) 1 0 + cond (leb (suc n) x) 1 0
+    step zero zero = refl
+    step zero (suc n) = rw (leb·suc-zero n, eqb·zero-suc n, leb·suc-zero (suc n))
+    step (suc x) zero = rw (leb·zero (suc x), eqb·suc-zero x, leb·suc-suc 0 x, leb·zero x)
+    step (suc x) (suc n) = rw (leb·suc-suc n x, eqb·suc-suc x n, leb·suc-suc (suc n) x) (step x n)
+
+-- the n counts of 1 take all of the n numbers g i: none is left to be n or more
+pub each-once : (n : ℕ) (g : ℕ → ℕ) → ((k : ℕ) → k < n → countBelow (λ i. eqb (g i) k) n ≡ 1) → (i : ℕ) → i < n → g i < n
+each-once n g h i l = go (decLt (g i) n)
+  where
+    hits : ℕ → ℕ
+    hits i = countBelow (λ k. eqb (g i) k) n
+
+    far : ℕ → Bool
+    far i = leb n (g i)
+
+    go : Dec (g i < n) → g i < n
+    go (yes m) = m
+    go (no d) = absurd (omega (
+      arith,
+      count-one far n i l (le→leb n (g i) (omega arith)),
+      sum-add n hits (λ i. cond (far i) 1 0),
+      sum-cong n (λ i. hits i + cond (far i) 1 0) (λ i. 1) (λ i m. hit-once (g i) n),
+      sum-swap n n (λ i k. cond (eqb (g i) k) 1 0),
+      sum-cong n (λ k. countBelow (λ i. eqb (g i) k) n) (λ k. 1) h,
+    ))

@@ -1,91 +1,22 @@
 -- What check 5, by counts, says of a layout: each slot holds a face, each face stands in one slot, `slotOf` finds it, and no slot is turned more than
 -- three times.
 use mathlib.Core.Path.{_≡_, refl, sym, _∙_, ap, subst}
-use mathlib.Core.Logic.{_≢_}
-use mathlib.Core.Bool.{Bool, cond, _&&_}
+use mathlib.Core.Bool.{Bool, _&&_}
 use mathlib.Core.List.{List, [], _∷_}
-use Prim.Native.Nat.{ℕ, zero, suc, _+_, _≤_, _<_}
+use Prim.Native.Nat.{ℕ, zero, suc, _+_, _<_}
 use native.Mathlib.Decide.{decLt}
 use native.Mathlib.Omega.{arith}
 use lib.Dec.{T, eqb, eqb→eq, eqb-refl, leb, leb→le}
 use lib.ListN.{length, drop, getD, drop-of-length-le, List·getD-append}
 use lib.Seq.{drop-cons, getD-append-add}
 use Rattle.arithmetic.specs.Searches.{lowest, allBelow}
-use Rattle.arithmetic.specs.Sums.{sumBelow, countBelow}
-use Rattle.arithmetic.proofs.Tests.{All3, and3, cond-false}
+use Rattle.arithmetic.specs.Sums.{countBelow}
+use Rattle.arithmetic.proofs.Tests.{All3, and3}
 use Rattle.arithmetic.proofs.Searches.{Lowest, lowest-is, lowestFrom-is, all-at}
-use Rattle.arithmetic.proofs.Sums.{count-none, count-two}
+use Rattle.arithmetic.proofs.Sums.{count-none, count-two, each-once}
 use Rattle.cubemap.specs.declared.Layout.{Layout}
 use Rattle.cubemap.specs.Frames.{faceIn, quarterTurnsIn, layoutBytes, slotOf}
 use Rattle.cubemap.specs.Checks.{layoutOK}
-
--- ---- six numbers, of which each of 0 to 5 is one exactly once, are all below 6
-
--- 1 where x is f
-abbrev is : ℕ → ℕ → ℕ
-is x f = cond (eqb x f) 1 0
-
-isnt : (x f : ℕ) → x ≢ f → is x f ≡ 0
-isnt x f h = cond-false {X = ℕ} (eqb x f) 1 0 (λ t. h (eqb→eq x f t))
-
--- how many of 0 to 5 x is
-abbrev hits : ℕ → ℕ
-hits x = is x 0 + is x 1 + is x 2 + is x 3 + is x 4 + is x 5
-
-hits-far : (x : ℕ) → 6 ≤ x → hits x ≡ 0
-hits-far x h = omega (
-  arith,
-  isnt x 0 (λ e. absurd (omega arith)),
-  isnt x 1 (λ e. absurd (omega arith)),
-  isnt x 2 (λ e. absurd (omega arith)),
-  isnt x 3 (λ e. absurd (omega arith)),
-  isnt x 4 (λ e. absurd (omega arith)),
-  isnt x 5 (λ e. absurd (omega arith)),
-)
-
-hits-most : (x : ℕ) → hits x ≤ 1
-hits-most zero = omega arith
-hits-most (suc zero) = omega arith
-hits-most (suc (suc zero)) = omega arith
-hits-most (suc (suc (suc zero))) = omega arith
-hits-most (suc (suc (suc (suc zero)))) = omega arith
-hits-most (suc (suc (suc (suc (suc zero))))) = omega arith
-hits-most (suc (suc (suc (suc (suc (suc x)))))) = omega (arith, hits-far (suc (suc (suc (suc (suc (suc x)))))) (omega arith))
-
-hits-near : (x : ℕ) → hits x ≡ 1 → x < 6
-hits-near x e = go (decLt x 6)
-  where
-    go : Dec (x < 6) → x < 6
-    go (yes h) = h
-    go (no h) = absurd (omega (arith, hits-far x (omega arith)))
-
--- the sum of all six counts is 6, and no number hits twice, so each hits once
-hit-each : (g : ℕ → ℕ) → ((f : ℕ) → f < 6 → is (g 0) f + is (g 1) f + is (g 2) f + is (g 3) f + is (g 4) f + is (g 5) f ≡ 1)
-    → (slot : ℕ) → slot < 6 → hits (g slot) ≡ 1
-hit-each g h slot l =
-    let h0 = h 0 (omega arith) in
-    let h1 = h 1 (omega arith) in
-    let h2 = h 2 (omega arith) in
-    let h3 = h 3 (omega arith) in
-    let h4 = h 4 (omega arith) in
-    let h5 = h 5 (omega arith) in
-    let g0 = hits-most (g 0) in
-    let g1 = hits-most (g 1) in
-    let g2 = hits-most (g 2) in
-    let g3 = hits-most (g 3) in
-    let g4 = hits-most (g 4) in
-    let g5 = hits-most (g 5) in
-    go (omega arith) (omega arith) (omega arith) (omega arith) (omega arith) (omega arith) slot l
-  where
-    go : hits (g 0) ≡ 1 → hits (g 1) ≡ 1 → hits (g 2) ≡ 1 → hits (g 3) ≡ 1 → hits (g 4) ≡ 1 → hits (g 5) ≡ 1
-        → (slot : ℕ) → slot < 6 → hits (g slot) ≡ 1
-    go a b c d e f zero l = a
-    go a b c d e f (suc zero) l = b
-    go a b c d e f (suc (suc zero)) l = c
-    go a b c d e f (suc (suc (suc zero))) l = d
-    go a b c d e f (suc (suc (suc (suc zero)))) l = e
-    go a b c d e f (suc (suc (suc (suc (suc zero))))) l = f
-    go a b c d e f (suc (suc (suc (suc (suc (suc n)))))) l = absurd (omega arith)
 
 -- ---- the parts of check 5
 
@@ -145,8 +76,7 @@ module _ (L : List ℕ) (t : T (layoutOK L)) where
   counted f h = eqb→eq (slotsWith L f) 1 (all-at (λ f. eqb (slotsWith L f) 1) 6 (parts .second) f h)
 
   in-slot : (slot : ℕ) → slot < 6 → faceIn L slot < 6
-  unfolding sumBelow
-  in-slot slot h = hits-near (faceIn L slot) (hit-each (faceIn L) (λ f l. omega (arith, counted f l)) slot h)
+  in-slot slot h = each-once 6 (faceIn L) counted slot h
 
   -- where some slot holds the face, `slotOf` finds the first that does
   found : (f slot : ℕ) → slot < 6 → faceIn L slot ≡ f → Lowest (λ slot. eqb (faceIn L slot) f) 6 (slotOf L f)
