@@ -12,9 +12,8 @@ use borrow.Author.Tests.{lt-leb, le-leb, lt-ltb, le-ltb}
 use Rattle.arithmetic.proofs.Sizes.{Difference, below, above, difference-cases}
 use Rattle.arithmetic.proofs.Tests.{and-left, and-right, cond-both}
 use Rattle.cubemap.specs.declared.Refusal.{Refusal}
-use Rattle.cubemap.specs.Interface.{Answer, isAccepted}
-use Rattle.cubemap.specs.Checks.{check, firstFailed}
-use Rattle.cubemap.specs.Outcomes.{result, refused, lookUpResult}
+use Rattle.cubemap.specs.Checks.{check}
+use Rattle.cubemap.specs.Outcomes.{refused, lookUpResult}
 use Rattle.cubemap.specs.Listing.{readFrom, signed32, kind, bodyLength, recordLength, recordFormat, recordSize, recordRay}
 use Rattle.cubemap.specs.Listing.{isWhole, isRayRecord, recordChecks, recordResult}
 use Rattle.cubemap.proofs.Passed.{failing, holding}
@@ -72,22 +71,17 @@ module _ (b : List ℕ) where
 
   -- ---- what a record comes to
 
-  answered : (a : Answer) → firstFailed (recordChecks b) ≡ a
-      → recordResult b ≡ cond (isAccepted a) (lookUpResult (recordSize b) (recordFormat b) (recordRay b)) (result a [])
-  unfolding recordResult
-  answered a e = ap (λ a. cond (isAccepted a) (lookUpResult (recordSize b) (recordFormat b) (recordRay b)) (result a [])) e
-
   pub record-cut : isWhole b ≡ false → recordResult b ≡ refused Refusal.RecordCut
-  unfolding recordChecks
-  record-cut e = answered _ (failing [] (check 16 (isWhole b)) _ tt e)
+  unfolding recordResult recordChecks
+  record-cut e = rw (failing [] (check 16 (isWhole b)) (check 15 (isRayRecord b) ∷ []) tt e)
 
   pub record-kind : T (isWhole b) → isRayRecord b ≡ false → recordResult b ≡ refused Refusal.RecordKind
-  unfolding recordChecks
-  record-kind w e = answered _ (failing (check 16 (isWhole b) ∷ []) (check 15 (isRayRecord b)) _ (w, tt) e)
+  unfolding recordResult recordChecks
+  record-kind w e = rw (failing (check 16 (isWhole b) ∷ []) (check 15 (isRayRecord b)) [] (w, tt) e)
 
   pub record-ray : T (isWhole b) → T (isRayRecord b) → recordResult b ≡ lookUpResult (recordSize b) (recordFormat b) (recordRay b)
-  unfolding recordChecks
-  record-ray w r = answered _ (holding (recordChecks b) (w, (r, tt)))
+  unfolding recordResult recordChecks
+  record-ray w r = rw (holding (recordChecks b) (w, (r, tt)))
 
   -- ---- the next record: "is passed over by its length"; where this one is not whole, "the run ends there"
 
