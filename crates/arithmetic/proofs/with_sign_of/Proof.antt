@@ -1,3 +1,4 @@
+-- `with_sign_of` meets its contract: a size below 2^63 has its opposite among the signed numbers.
 use mathlib.Core.Path.{_≡_, sym, _∙_, ap, subst}
 use mathlib.Core.Bool.{true, false}
 use lib.IntN.{pos, negℤ, _-ℤ_, +ℤ-idl}

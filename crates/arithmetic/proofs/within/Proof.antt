@@ -1,3 +1,4 @@
+-- `within` meets its contract: `magnitude` gives the size of x.
 use mathlib.Core.Path.{_∙_, ap}
 use lib.Dec.{leb}
 use lib.IntN.{natAbs}

@@ -1,3 +1,4 @@
+-- `main` is safe and ends: what was read lies within its buffer, and the listing within its own.
 use mathlib.Core.Path.{sym, ap, subst}
 use mathlib.Core.List.{List}
 use Prim.Native.Nat.{ℕ, _≤_}

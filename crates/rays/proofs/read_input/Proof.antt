@@ -1,3 +1,4 @@
+-- `read_input` meets its contract: each read goes into the rest of the buffer, which gets shorter.
 use mathlib.Core.Path.{_≡_}
 use Prim.Native.Nat.{_-_, _≤_}
 use lib.ListN.{length}
