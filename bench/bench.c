@@ -31,8 +31,8 @@ int main(void)
     printf("Face size %d, depth %d, %d samples; the shortest of %d interleaved runs.\n", SIZE, DEPTH, SAMPLES, RUNS);
     print_machine();
     printf("\n");
-    const int conversion_no_slower = print_conversion_table();
+    const int conversion_fast_enough = print_conversion_table();
     printf("\n");
-    const int score_no_slower = print_score_table();
-    return conversion_no_slower && score_no_slower ? 0 : 1;
+    const int score_fast_enough = print_score_table();
+    return conversion_fast_enough && score_fast_enough ? 0 : 1;
 }

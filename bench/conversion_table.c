@@ -9,7 +9,7 @@
  * "Tuned by hand" (tuned.c) goes by the same formulas, made fast: the coordinates are in a table, each face has a base and steps
  * into the frame, samples are loaded as 16 bits, and there is no floor().
  *
- * The verdict is about the straightforward one alone; the tuned one may be faster than welchodrys_convert.
+ * The verdict is about the straightforward one alone: in each case welchodrys_convert is to be so many times as fast (`wanted`).
  */
 #include "double_precision.h"
 #include "harness.h"
@@ -29,6 +29,7 @@ enum {
 static const int turn[4] = {29, 3, 7, -5};
 
 static const char *const names[CASES] = {"CMP nearest", "CMP cubic", "ACP nearest", "ACP cubic"};
+static const double wanted[CASES] = {4, 4, 3, 3.5};
 static const struct conversion conversions[CASES] = {
     {SIZE, DEPTH, WELCHODRYS_CMP, WELCHODRYS_NEAREST, usual_layout, turn},
     {SIZE, DEPTH, WELCHODRYS_CMP, WELCHODRYS_CUBIC, usual_layout, turn},
@@ -142,11 +143,11 @@ static void print_table(const struct times *times, const struct difference diffe
     printf("%-30s%14.2f\n", "memcpy of a frame", times->copy);
 }
 
-/* Whether welchodrys_convert is no slower than the straightforward conversion in each case. */
-static int no_slower(const struct times *times)
+/* Whether welchodrys_convert is as many times as fast as the straightforward conversion as is wanted, in each case. */
+static int fast_enough(const struct times *times)
 {
     for (int i = 0; i < CASES; i++)
-        if (times->exact[i] > times->straightforward[i])
+        if (wanted[i] * times->exact[i] > times->straightforward[i])
             return 0;
     return 1;
 }
@@ -162,6 +163,7 @@ int print_conversion_table(void)
     const struct times times = measure(&frames);
     printf("A conversion through the turn (%d, %d, %d, %d), usual layout:\n", turn[0], turn[1], turn[2], turn[3]);
     print_table(&times, differences);
-    printf("no slower than straightforward double precision on all four: %s\n", no_slower(&times) ? "yes" : "no");
-    return no_slower(&times);
+    printf("at least %g, %g, %g and %g times as fast as straightforward double precision: %s\n",
+        wanted[0], wanted[1], wanted[2], wanted[3], fast_enough(&times) ? "yes" : "no");
+    return fast_enough(&times);
 }

@@ -12,7 +12,7 @@
  * "Plain squared error" has no weights and knows no layouts: where they differ it still compares index by index, and so samples of
  * different places. It stands there to show what reading both frames costs.
  *
- * The verdict is about the weights in the call alone; the other two may be faster than welchodrys_score.
+ * The verdict is about the weights ready; the plain one may be faster than welchodrys_score.
  */
 #include "harness.h"
 #include "score.h"
@@ -123,11 +123,11 @@ static void print_table(double times[WAYS][CASES])
     print_ratios("plain / welchodrys", times[PLAIN], times[EXACT], CASES);
 }
 
-/* Whether welchodrys_score is no slower than the straightforward score in each case. */
+/* Whether welchodrys_score, which finds its weights in the call, is no slower than the score with its weights ready, in each case. */
 static int no_slower(double times[WAYS][CASES])
 {
     for (int i = 0; i < CASES; i++)
-        if (times[EXACT][i] > times[IN_CALL][i])
+        if (times[EXACT][i] > times[READY][i])
             return 0;
     return 1;
 }
@@ -145,7 +145,7 @@ int print_score_table(void)
     measure(&frames, times);
     printf("A score of two frames, the first in the usual layout, the second in the usual or another layout:\n");
     print_table(times);
-    printf("no slower than the double-precision weighted error with its weights in the call: %s\n",
+    printf("no slower than the double-precision weighted error with its weights ready: %s\n",
         no_slower(times) ? "yes" : "no");
     return no_slower(times);
 }

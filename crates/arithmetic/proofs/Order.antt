@@ -5,7 +5,7 @@ use mathlib.Core.Bool.{Bool, true, false, cond}
 use Prim.Native.Nat.{ℕ, suc, _+_, _-_, _≤_, _<_}
 use native.Mathlib.Omega.{arith}
 use lib.Dec.{T, leb→le, le→leb, ltb, ltb→lt, lt→ltb}
-use lib.IntN.{ℤ, pos, negsuc, _+ℤ_, _-ℤ_}
+use lib.IntN.{ℤ, pos, negsuc, negℤ, _+ℤ_, _-ℤ_}
 use lib.Signed.{_≤ℤ_, _<ℤ_, leZ, ltZ}
 use Rattle.arithmetic.proofs.Ring.{var, _⊕_, _⊝_, ⊖, solve}
 use Rattle.arithmetic.proofs.Sizes.{neg-above}
@@ -63,3 +63,18 @@ difference-le a b k h = le-intro (pos a -ℤ pos k) (pos b -ℤ pos k) (b - a) (
 
 pub difference-lt : (a b k : ℕ) → a < b → (pos a -ℤ pos k) <ℤ (pos b -ℤ pos k)
 difference-lt a b k h = lt-intro (pos a -ℤ pos k) (pos b -ℤ pos k) (b - suc a) (further a b (suc (b - suc a)) k (omega arith))
+
+-- ---- opposite numbers are in the opposite order, and below every natural number
+
+pub opposite-le : (a b : ℕ) → b ≤ a → negℤ (pos a) ≤ℤ negℤ (pos b)
+opposite-le a b h = le-intro (negℤ (pos a)) (negℤ (pos b)) (a - b)
+    (solve (pos b ∷ pos (a - b) ∷ []) (⊖ (var 0)) (⊖ (var 0 ⊕ var 1) ⊕ var 1) tt ∙ ap (λ n. negℤ (pos n) +ℤ pos (a - b)) back)
+  where
+    back : b + (a - b) ≡ a
+    back = omega arith
+
+pub opposite-below : (a b : ℕ) → negℤ (pos a) ≤ℤ pos b
+opposite-below a b = le-intro (negℤ (pos a)) (pos b) (b + a) (solve (pos a ∷ pos b ∷ []) (var 1) (⊖ (var 0) ⊕ (var 1 ⊕ var 0)) tt)
+
+pub natural-le : (a b : ℕ) → a ≤ b → pos a ≤ℤ pos b
+natural-le a b h = le-intro (pos a) (pos b) (b - a) (ap pos (omega arith))

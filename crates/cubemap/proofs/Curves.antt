@@ -38,6 +38,13 @@ bent-step M c h = go (34 * M - 9 * suc c) (34 * M - 9 * c) (omega arith) (omega 
     go : (d e : ℕ) → e ≡ d + 9 → d ≤ 34 * M → suc c * d ≤ c * e + 34 * M
     go d e p q = rw p (omega arith)
 
+-- and by at most 34M for each of several
+pub bent-slope : (M x w : ℕ) → x + w ≤ M → bent M (x + w) ≤ bent M x + 34 * M * w
+bent-slope M x w h = go (34 * M - 9 * (x + w)) (34 * M - 9 * x) (omega arith) (omega arith)
+  where
+    go : (d e : ℕ) → e ≡ d + 9 * w → d ≤ 34 * M → (x + w) * d ≤ x * e + 34 * M * w
+    go d e p q = let l : w * d ≤ w * (34 * M) = mul-le-mul-left w q in rw p (omega arith)
+
 -- at M it is 25·M²
 pub bent-end : (M : ℕ) → bent M M ≡ 25 * M * M
 bent-end M = ap (λ m. M * m) quarter ∙ mul-comm M (25 * M)
@@ -50,7 +57,7 @@ pub bent-most : (M c : ℕ) → c ≤ M → bent M c ≤ 25 * M * M
 bent-most M c h = le-trans (bent-rises M c M h (omega arith)) (le-of-eq (bent-end M))
 
 -- on another scale: both numbers times a
-bent-scaled : (A a z e : ℕ) → bent (a * e) (a * z) * A ≡ a * a * (bent e z * A)
+pub bent-scaled : (A a z e : ℕ) → bent (a * e) (a * z) * A ≡ a * a * (bent e z * A)
 bent-scaled A a z e =
     let s : ℕ = 34 * e - 9 * z in
     let x : 34 * (a * e) - 9 * (a * z) ≡ a * s =
@@ -143,6 +150,11 @@ pub curve-next : (A k : ℕ) → k < A → 25 * N * N * k < bent N (curve A k) *
 curve-next A k h =
     let b = curve-below A k h in
     omega (arith, curve-over A k (suc (curve A k)) (omega arith) (omega arith), mul-le-mul-right A (bent-step N (curve A k) b))
+
+-- it rises
+pub curve-rises : (A j k : ℕ) → j ≤ k → curve A j ≤ curve A k
+curve-rises A j k h =
+    curve-is A k .most (curve A j) (curve-is A j .bounded) (le-trans (curve-is A j .fits) (mul-le-mul-left (25 * N * N) h))
 
 -- it is strictly increasing, for face sizes up to 512
 curve-step : (A k : ℕ) → A ≤ 512 → k < A → curve A k < curve A (suc k)

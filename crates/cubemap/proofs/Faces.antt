@@ -249,104 +249,243 @@ module _ (r : Ray) where
     undone = λ i. ray (negℤ-negℤ (r .x) i) (negℤ-negℤ (r .y) i) (sym (negative-is (r .z) (w .has-sign)) i);
   }
 
+-- by the rows of Table 4 in their order: where a later axis is chosen, an earlier one of no smaller size would have been, were it not 0
+module _ (r : Ray) (t : T (rayNonzero r)) (P : ℕ → Type 0) where
+  abbrev PassesX : Type 0
+  PassesX = natAbs (r .y) ≤ natAbs (r .x) → natAbs (r .z) ≤ natAbs (r .x) → natAbs (r .x) ≡ 0
+
+  abbrev PassesY : Type 0
+  PassesY = natAbs (r .x) ≤ natAbs (r .y) → natAbs (r .z) ≤ natAbs (r .y) → natAbs (r .y) ≡ 0
+
+  take : (a b c : ℤ) (sign : Bool) (f n : ℕ) → (Row a b c sign → P f) → ((T (isLargest a b c && sign) → ⊥) → P n)
+      → P (cond (isLargest a b c && sign) f n)
+  take a b c sign f n here else = cond-both P (isLargest a b c && sign) f n (λ h. here (rowSays a b c sign h)) else
+
+  face-cases : (Row (r .x) (r .y) (r .z) (isPositive (r .x)) → P 0) → (Row (r .x) (r .y) (r .z) (isNegative (r .x)) → P 1)
+      → (PassesX → Row (r .y) (r .x) (r .z) (isPositive (r .y)) → P 2) → (PassesX → Row (r .y) (r .x) (r .z) (isNegative (r .y)) → P 3)
+      → (PassesX → PassesY → Row (r .z) (r .x) (r .y) (isPositive (r .z)) → P 4)
+      → (PassesX → PassesY → Row (r .z) (r .x) (r .y) (isNegative (r .z)) → P 5) → P (faceOf r)
+  unfolding faceOf
+  face-cases p0 p1 p2 p3 p4 p5 =
+      take (r .x) (r .y) (r .z) (isPositive (r .x)) 0 _ p0 (λ n0.
+      take (r .x) (r .y) (r .z) (isNegative (r .x)) 1 _ p1 (λ n1.
+      let x : PassesX = rows-deny (r .x) (r .y) (r .z) n0 n1 in
+      take (r .y) (r .x) (r .z) (isPositive (r .y)) 2 _ (p2 x) (λ n2.
+      take (r .y) (r .x) (r .z) (isNegative (r .y)) 3 _ (p3 x) (λ n3.
+      let y : PassesY = rows-deny (r .y) (r .x) (r .z) n2 n3 in
+      take (r .z) (r .x) (r .y) (isPositive (r .z)) 4 _ (p4 x y) (λ n4.
+      take (r .z) (r .x) (r .y) (isNegative (r .z)) 5 _ (p5 x y) (λ n5.
+      absurd (none x y (rows-deny (r .z) (r .x) (r .y) n4 n5))))))))
+    where
+      none : PassesX → PassesY → (natAbs (r .x) ≤ natAbs (r .z) → natAbs (r .y) ≤ natAbs (r .z) → natAbs (r .z) ≡ 0) → ⊥
+      none x y z = some-largest (natAbs (r .x)) (natAbs (r .y)) (natAbs (r .z))
+          (λ p q. let e = x p q in ray-not-zero r t e (omega arith) (omega arith))
+          (λ p q. let e = y p q in ray-not-zero r t (omega arith) e (omega arith))
+          (λ p q. let e = z p q in ray-not-zero r t (omega arith) (omega arith) e)
+
 -- every ray but (0, 0, 0) has a face that suits it
 pub faced : (r : Ray) → T (rayNonzero r) → Faced r (faceOf r)
-unfolding faceOf
-faced r t =
-    take (r .x) (r .y) (r .z) (isPositive (r .x)) 0 _ (faced0 r) (λ n0.
-    take (r .x) (r .y) (r .z) (isNegative (r .x)) 1 _ (faced1 r) (λ n1.
-    take (r .y) (r .x) (r .z) (isPositive (r .y)) 2 _ (faced2 r) (λ n2.
-    take (r .y) (r .x) (r .z) (isNegative (r .y)) 3 _ (faced3 r) (λ n3.
-    take (r .z) (r .x) (r .y) (isPositive (r .z)) 4 _ (faced4 r) (λ n4.
-    take (r .z) (r .x) (r .y) (isNegative (r .z)) 5 _ (faced5 r) (λ n5. absurd (none n0 n1 n2 n3 n4 n5)))))))
+faced r t = face-cases r t (Faced r) (faced0 r) (faced1 r) (λ x. faced2 r) (λ x. faced3 r) (λ x y. faced4 r) (λ x y. faced5 r)
+
+-- ---- which rays fall on a face: a test of linear numbers
+
+-- the chosen number, taken positive towards the face
+unfoldable pub toward : ℕ → Ray → ℤ
+toward f v = rowOf f (v .x) (negℤ (v .x)) (v .y) (negℤ (v .y)) (v .z) (negℤ (v .z))
+
+-- by how much u × d and v × d have to stay below d: at equal sizes the earlier axis wins
+abbrev pub acrossGap : ℕ → ℕ
+acrossGap f = rowOf f 0 0 1 1 1 1
+
+abbrev pub downGap : ℕ → ℕ
+downGap f = rowOf f 0 0 0 0 1 1
+
+pub record Chosen (f : ℕ) (v : Ray) : Type 0 where
+  pub face-ok : f < 6
+  pub ahead : toward f v ≡ pos (chosenSize f v)
+  pub positive : 0 < chosenSize f v
+  pub across-in : natAbs (across f v) + acrossGap f ≤ chosenSize f v
+  pub down-in : natAbs (down f v) + downGap f ≤ chosenSize f v
+
+-- a size below another one, which is not 0, where it would be 0 if it were not below
+strictly : (a b : ℕ) → 0 < b → (b ≤ a → a ≡ 0) → a + 1 ≤ b
+strictly a b p h = go (lt-of-not-le (λ l. let e = h l in omega arith))
   where
-    take : (a b c : ℤ) (sign : Bool) (f n : ℕ) → (Row a b c sign → Faced r f) → ((T (isLargest a b c && sign) → ⊥) → Faced r n)
-        → Faced r (cond (isLargest a b c && sign) f n)
-    take a b c sign f n here else = cond-both (Faced r) (isLargest a b c && sign) f n (λ h. here (rowSays a b c sign h)) else
+    go : a < b → a + 1 ≤ b
+    go l = omega arith
 
-    none : (T (isLargest (r .x) (r .y) (r .z) && isPositive (r .x)) → ⊥) → (T (isLargest (r .x) (r .y) (r .z) && isNegative (r .x)) → ⊥)
-        → (T (isLargest (r .y) (r .x) (r .z) && isPositive (r .y)) → ⊥) → (T (isLargest (r .y) (r .x) (r .z) && isNegative (r .y)) → ⊥)
-        → (T (isLargest (r .z) (r .x) (r .y) && isPositive (r .z)) → ⊥) → (T (isLargest (r .z) (r .x) (r .y) && isNegative (r .z)) → ⊥) → ⊥
-    none n0 n1 n2 n3 n4 n5 = some-largest (natAbs (r .x)) (natAbs (r .y)) (natAbs (r .z))
-        (λ p q. let e = rows-deny (r .x) (r .y) (r .z) n0 n1 p q in ray-not-zero r t e (omega arith) (omega arith))
-        (λ p q. let e = rows-deny (r .y) (r .x) (r .z) n2 n3 p q in ray-not-zero r t (omega arith) e (omega arith))
-        (λ p q. let e = rows-deny (r .z) (r .x) (r .y) n4 n5 p q in ray-not-zero r t (omega arith) (omega arith) e)
+opposite-is : (z : ℤ) → T (isNegative z) → negℤ z ≡ pos (natAbs z)
+opposite-is (pos n) t = absurd t
+opposite-is (negsuc n) t = refl
 
--- ---- Table 4 by the tests that its rows make, in their order
+-- each ray but (0, 0, 0) passes the test of its face
+pub chosen : (r : Ray) → T (rayNonzero r) → Chosen (faceOf r) r
+unfolding toward chosenSize across down
+chosen r t = face-cases r t (λ f. Chosen f r)
+    (λ w. record {
+      face-ok = omega arith;
+      ahead = positive-is (r .x) (w .has-sign);
+      positive = positive-size (r .x) (w .has-sign);
+      across-in = omega (arith, neg-small (r .z) (w .third));
+      down-in = omega (arith, neg-small (r .y) (w .second));
+    })
+    (λ w. record {
+      face-ok = omega arith;
+      ahead = opposite-is (r .x) (w .has-sign);
+      positive = negative-size (r .x) (w .has-sign);
+      across-in = omega (arith, w .third);
+      down-in = omega (arith, neg-small (r .y) (w .second));
+    })
+    (λ x w. let p = positive-size (r .y) (w .has-sign) in record {
+      face-ok = omega arith;
+      ahead = positive-is (r .y) (w .has-sign);
+      positive = p;
+      across-in = after-x x w p;
+      down-in = omega (arith, w .third);
+    })
+    (λ x w. let p = negative-size (r .y) (w .has-sign) in record {
+      face-ok = omega arith;
+      ahead = opposite-is (r .y) (w .has-sign);
+      positive = p;
+      across-in = after-x x w p;
+      down-in = omega (arith, neg-small (r .z) (w .third));
+    })
+    (λ x y w. let p = positive-size (r .z) (w .has-sign) in record {
+      face-ok = omega arith;
+      ahead = positive-is (r .z) (w .has-sign);
+      positive = p;
+      across-in = after-x′ x w p;
+      down-in = rw (natAbs-neg (r .y)) (after-y y w p);
+    })
+    (λ x y w. let p = negative-size (r .z) (w .has-sign) in record {
+      face-ok = omega arith;
+      ahead = opposite-is (r .z) (w .has-sign);
+      positive = p;
+      across-in = rw (natAbs-neg (r .x)) (after-x′ x w p);
+      down-in = rw (natAbs-neg (r .y)) (after-y y w p);
+    })
+  where
+    after-x : {s : Bool} → PassesX r t (λ f. Chosen f r) → Row (r .y) (r .x) (r .z) s → 0 < natAbs (r .y) → natAbs (r .x) + 1 ≤ natAbs (r .y)
+    after-x x w p = strictly (natAbs (r .x)) (natAbs (r .y)) p (λ l. x l (omega (arith, w .third)))
 
--- what it gives: the face, u × d, v × d, and d
-abbrev pub Table4 : Ray → ℕ → ℤ → ℤ → ℕ → Type 0
-Table4 r f a b d = (f ≡ faceOf r) × (a ≡ across (faceOf r) r) × (b ≡ down (faceOf r) r) × (d ≡ chosenSize (faceOf r) r)
+    after-x′ : {s : Bool} → PassesX r t (λ f. Chosen f r) → Row (r .z) (r .x) (r .y) s → 0 < natAbs (r .z) → natAbs (r .x) + 1 ≤ natAbs (r .z)
+    after-x′ x w p = strictly (natAbs (r .x)) (natAbs (r .z)) p (λ l. x (omega (arith, w .third)) l)
 
-table4-of : (r : Ray) (f : ℕ) → faceOf r ≡ f → Table4 r f (across f r) (down f r) (chosenSize f r)
-table4-of r f e =
-    subst (λ g. (f ≡ g) × (across f r ≡ across g r) × (down f r ≡ down g r) × (chosenSize f r ≡ chosenSize g r)) (sym e) (refl, refl, refl, refl)
+    after-y : {s : Bool} → PassesY r t (λ f. Chosen f r) → Row (r .z) (r .x) (r .y) s → 0 < natAbs (r .z) → natAbs (r .y) + 1 ≤ natAbs (r .z)
+    after-y y w p = strictly (natAbs (r .y)) (natAbs (r .z)) p (λ l. y (omega (arith, w .second)) l)
+
+-- a number whose opposite is its size is not positive
+behind : (z : ℤ) → negℤ z ≡ pos (natAbs z) → isPositive z ≡ false
+behind z e = ap isPositive (sym (negℤ-negℤ z) ∙ ap negℤ e) ∙ positive-neg (natAbs z)
+
+-- and of no other face
+pub chosen-only : (f : ℕ) (r : Ray) → Chosen f r → faceOf r ≡ f
+unfolding toward chosenSize across down
+chosen-only zero r c =
+    face-x r (omega (arith, c .down-in, natAbs-neg (r .y))) (omega (arith, c .across-in, natAbs-neg (r .z))) (c .positive)
+    ∙ ap (λ b. cond b 0 1) (ap isPositive (c .ahead) ∙ positive-pos (X r) (c .positive))
+chosen-only (suc zero) r c =
+    face-x r (omega (arith, c .down-in, natAbs-neg (r .y))) (omega (arith, c .across-in)) (c .positive)
+    ∙ ap (λ b. cond b 0 1) (behind (r .x) (c .ahead))
+chosen-only (suc (suc zero)) r c =
+    face-y r (λ p q. omega (arith, c .across-in)) (omega (arith, c .across-in)) (omega (arith, c .down-in)) (c .positive)
+    ∙ ap (λ b. cond b 2 3) (ap isPositive (c .ahead) ∙ positive-pos (Y r) (c .positive))
+chosen-only (suc (suc (suc zero))) r c =
+    face-y r (λ p q. omega (arith, c .across-in)) (omega (arith, c .across-in)) (omega (arith, c .down-in, natAbs-neg (r .z))) (c .positive)
+    ∙ ap (λ b. cond b 2 3) (behind (r .y) (c .ahead))
+chosen-only (suc (suc (suc (suc zero)))) r c =
+    strictly-z r (omega (arith, c .across-in)) (omega (arith, c .down-in, natAbs-neg (r .y)))
+    ∙ ap (λ b. cond b 4 5) (ap isPositive (c .ahead) ∙ positive-pos (Z r) (c .positive))
+chosen-only (suc (suc (suc (suc (suc zero))))) r c =
+    strictly-z r (omega (arith, c .across-in, natAbs-neg (r .x))) (omega (arith, c .down-in, natAbs-neg (r .y)))
+    ∙ ap (λ b. cond b 4 5) (behind (r .z) (c .ahead))
+chosen-only (suc (suc (suc (suc (suc (suc f)))))) r c = absurd (omega (arith, c .face-ok))
+
+-- the chosen size is that of the number towards the face
+pub chosen-toward : (f : ℕ) (v : Ray) → natAbs (toward f v) ≡ chosenSize f v
+unfolding toward chosenSize
+chosen-toward zero v = refl
+chosen-toward (suc zero) v = natAbs-neg (v .x)
+chosen-toward (suc (suc zero)) v = refl
+chosen-toward (suc (suc (suc zero))) v = natAbs-neg (v .y)
+chosen-toward (suc (suc (suc (suc zero)))) v = refl
+chosen-toward (suc (suc (suc (suc (suc f))))) v = natAbs-neg (v .z)
+
+-- ---- the face by the tests that the rows of Table 4 make, in their order
 
 module _ (r : Ray) (t : T (rayNonzero r)) where
-  pub table4-x : Y r ≤ X r → Z r ≤ X r → (b : Bool) → isPositive (r .x) ≡ b
-      → Table4 r (cond b 0 1) (cond b (negℤ (r .z)) (r .z)) (negℤ (r .y)) (X r)
-  unfolding across down chosenSize
-  table4-x p q b s = go b (face-x r p q some ∙ ap (λ c. cond {A = ℕ} c 0 1) s)
+  pub face-by-x : Y r ≤ X r → Z r ≤ X r → (b : Bool) → isPositive (r .x) ≡ b → cond b 0 1 ≡ faceOf r
+  face-by-x p q b s = ap (λ c. cond {A = ℕ} c 0 1) (sym s) ∙ sym (face-x r p q some)
     where
       some : 0 < X r
       some = lt-of-not-le (λ (l : X r ≤ 0). ray-not-zero r t (omega arith) (omega arith) (omega arith))
 
-      go : (b : Bool) → faceOf r ≡ cond b 0 1 → Table4 r (cond b 0 1) (cond b (negℤ (r .z)) (r .z)) (negℤ (r .y)) (X r)
-      go true e = table4-of r 0 e
-      go false e = table4-of r 1 e
-
-  pub table4-y : (Y r ≤ X r → Z r ≤ X r → ⊥) → X r ≤ Y r → Z r ≤ Y r → (b : Bool) → isPositive (r .y) ≡ b
-      → Table4 r (cond b 2 3) (r .x) (cond b (r .z) (negℤ (r .z))) (Y r)
-  unfolding across down chosenSize
-  table4-y n p q b s = go b (face-y r n p q some ∙ ap (λ c. cond {A = ℕ} c 2 3) s)
+  pub face-by-y : (Y r ≤ X r → Z r ≤ X r → ⊥) → X r ≤ Y r → Z r ≤ Y r → (b : Bool) → isPositive (r .y) ≡ b → cond b 2 3 ≡ faceOf r
+  face-by-y n p q b s = ap (λ c. cond {A = ℕ} c 2 3) (sym s) ∙ sym (face-y r n p q some)
     where
       some : 0 < Y r
       some = lt-of-not-le (λ (l : Y r ≤ 0). ray-not-zero r t (omega arith) (omega arith) (omega arith))
 
-      go : (b : Bool) → faceOf r ≡ cond b 2 3 → Table4 r (cond b 2 3) (r .x) (cond b (r .z) (negℤ (r .z))) (Y r)
-      go true e = table4-of r 2 e
-      go false e = table4-of r 3 e
-
-  pub table4-z : (Y r ≤ X r → Z r ≤ X r → ⊥) → (X r ≤ Y r → Z r ≤ Y r → ⊥) → (b : Bool) → isPositive (r .z) ≡ b
-      → Table4 r (cond b 4 5) (cond b (r .x) (negℤ (r .x))) (negℤ (r .y)) (Z r)
-  unfolding across down chosenSize
-  table4-z m n b s = go b (last (decLt (X r) (Y r)) ∙ ap (λ c. cond {A = ℕ} c 4 5) s)
+  pub face-by-z : (Y r ≤ X r → Z r ≤ X r → ⊥) → (X r ≤ Y r → Z r ≤ Y r → ⊥) → (b : Bool) → isPositive (r .z) ≡ b → cond b 4 5 ≡ faceOf r
+  face-by-z m n b s = ap (λ c. cond {A = ℕ} c 4 5) (sym s) ∙ sym (last (decLt (X r) (Y r)))
     where
       last : Dec (X r < Y r) → faceOf r ≡ cond (isPositive (r .z)) 4 5
       last (yes l) = let h = lt-of-not-le (λ q. n (omega arith) q) in strictly-z r (omega arith) h
       last (no l) = let h = lt-of-not-le (λ q. m (omega arith) q) in strictly-z r h (omega arith)
 
-      go : (b : Bool) → faceOf r ≡ cond b 4 5 → Table4 r (cond b 4 5) (cond b (r .x) (negℤ (r .x))) (negℤ (r .y)) (Z r)
-      go true e = table4-of r 4 e
-      go false e = table4-of r 5 e
+-- ---- the other numbers of Table 4, by its row for a face: u × d, v × d and d, positive towards the face
 
--- the chosen size is that of one of the three numbers
-chosen-within : (B f : ℕ) (r : Ray) → RayWithin B r → chosenSize f r ≤ B
-unfolding chosenSize
-chosen-within B zero r w = w .x
-chosen-within B (suc zero) r w = w .x
-chosen-within B (suc (suc zero)) r w = w .y
-chosen-within B (suc (suc (suc zero))) r w = w .y
-chosen-within B (suc (suc (suc (suc zero)))) r w = w .z
-chosen-within B (suc (suc (suc (suc (suc f))))) r w = w .z
+abbrev pub Row4 : ℕ → Ray → ℤ → ℤ → ℤ → Type 0
+Row4 f v a b d = (a ≡ across f v) × (b ≡ down f v) × (d ≡ toward f v)
 
--- so the numbers are ratios of at most 1, within the ray's bound
-pub record Ratios (B : ℕ) (a b : ℤ) (d : ℕ) : Type 0 where
-  pub positive : 0 < d
-  pub bounded : d ≤ B
-  pub across-ok : natAbs a ≤ d
-  pub down-ok : natAbs b ≤ d
+pub row4-is : (f : ℕ) (v : Ray) → rowOf f
+    (Row4 f v (negℤ (v .z)) (negℤ (v .y)) (v .x))
+    (Row4 f v (v .z) (negℤ (v .y)) (negℤ (v .x)))
+    (Row4 f v (v .x) (v .z) (v .y))
+    (Row4 f v (v .x) (negℤ (v .z)) (negℤ (v .y)))
+    (Row4 f v (v .x) (negℤ (v .y)) (v .z))
+    (Row4 f v (negℤ (v .x)) (negℤ (v .y)) (negℤ (v .z)))
+unfolding across down toward
+row4-is zero v = (refl, refl, refl)
+row4-is (suc zero) v = (refl, refl, refl)
+row4-is (suc (suc zero)) v = (refl, refl, refl)
+row4-is (suc (suc (suc zero))) v = (refl, refl, refl)
+row4-is (suc (suc (suc (suc zero)))) v = (refl, refl, refl)
+row4-is (suc (suc (suc (suc (suc f))))) v = (refl, refl, refl)
 
-pub table4-ratios : {B f d : ℕ} {r : Ray} {a b : ℤ} → T (rayNonzero r) → RayWithin B r → Table4 r f a b d → Ratios B a b d
-table4-ratios {B} {f} {d} {r} {a} {b} t w (face, x, y, size) = record {
-  positive = rw size (g .nonzero);
-  bounded = rw size (chosen-within B (faceOf r) r w);
-  across-ok = rw (x, size) (g .across-ok);
-  down-ok = rw (y, size) (g .down-ok);
+-- none of them exceeds the ray's bound, on whatever face
+pub record RowWithin (B f : ℕ) (v : Ray) : Type 0 where
+  pub across-in : natAbs (across f v) ≤ B
+  pub down-in : natAbs (down f v) ≤ B
+  pub toward-in : natAbs (toward f v) ≤ B
+
+pub row-within : {B : ℕ} (f : ℕ) (v : Ray) → RayWithin B v → RowWithin B f v
+unfolding across down toward
+row-within zero v w = record { across-in = neg-small (v .z) (w .z); down-in = neg-small (v .y) (w .y); toward-in = w .x }
+row-within (suc zero) v w = record { across-in = w .z; down-in = neg-small (v .y) (w .y); toward-in = neg-small (v .x) (w .x) }
+row-within (suc (suc zero)) v w = record { across-in = w .x; down-in = w .z; toward-in = w .y }
+row-within (suc (suc (suc zero))) v w = record { across-in = w .x; down-in = neg-small (v .z) (w .z); toward-in = neg-small (v .y) (w .y) }
+row-within (suc (suc (suc (suc zero)))) v w = record { across-in = w .x; down-in = neg-small (v .y) (w .y); toward-in = w .z }
+row-within (suc (suc (suc (suc (suc f))))) v w = record {
+  across-in = neg-small (v .x) (w .x);
+  down-in = neg-small (v .y) (w .y);
+  toward-in = neg-small (v .z) (w .z);
 }
-  where
-    g : Faced r (faceOf r)
-    g = faced r t
+
+-- and on the face that the ray falls on they are ratios of at most 1
+pub record Ratios (B f : ℕ) (v : Ray) : Type 0 where
+  pub positive : 0 < chosenSize f v
+  pub bounded : chosenSize f v ≤ B
+  pub across-ok : natAbs (across f v) ≤ chosenSize f v
+  pub down-ok : natAbs (down f v) ≤ chosenSize f v
+
+pub chosen-ratios : {B f : ℕ} {v : Ray} → RayWithin B v → Chosen f v → Ratios B f v
+chosen-ratios {B} {f} {v} w c = record {
+  positive = c .positive;
+  bounded = subst (λ n. n ≤ B) (chosen-toward f v) (row-within f v w .toward-in);
+  across-ok = let h = c .across-in in omega arith;
+  down-ok = let h = c .down-in in omega arith;
+}
 
 -- ---- a positive multiple of a ray
 

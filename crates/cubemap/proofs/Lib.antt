@@ -25,6 +25,7 @@ pub mod Places
 pub mod CubeRays
 pub mod CubeRotations
 pub mod RotatedRays
+pub mod Regions
 pub mod Conversion
 pub mod Weights
 pub mod Scores

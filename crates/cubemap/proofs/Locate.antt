@@ -17,7 +17,7 @@ use Rattle.cubemap.specs.Checks.{rayNonzero}
 use Rattle.cubemap.proofs.Indices.{place-eq}
 use Rattle.cubemap.proofs.FaceCoordinates.{Coordinates, coordinates}
 use Rattle.cubemap.proofs.Positions.{InRange, position-range, position-times, position-own}
-use Rattle.cubemap.proofs.Faces.{Table4, Faced, faced, across-table3, down-table3, chosen-table3, faceOf-table3}
+use Rattle.cubemap.proofs.Faces.{Faced, faced, across-table3, down-table3, chosen-table3, faceOf-table3}
 use Rattle.cubemap.proofs.Faces.{chosen-times, across-times, down-times, faceOf-times}
 
 -- ---- what is located lies on a face
@@ -38,13 +38,12 @@ locate-on-face format A r t = record {
     g : Faced r (faceOf r)
     g = faced r t
 
--- ---- by what Table 4 gives
+-- ---- by the numbers of its face
 
-pub locate-is : (format : Format) (A : ℕ) (v : Ray) (f : ℕ) (x y : ℤ) (d : ℕ) → Table4 v f x y d
-    → locate format A v ≡ located f (position64 format A x d) (position64 format A y d)
+pub locate-is : (format : Format) (A : ℕ) (v : Ray) (f : ℕ) → faceOf v ≡ f
+    → locate format A v ≡ located f (position64 format A (across f v) (chosenSize f v)) (position64 format A (down f v) (chosenSize f v))
 unfolding locate
-locate-is format A v f x y d (face, a, b, size) =
-    sym (λ i. located (face i) (position64 format A (a i) (size i)) (position64 format A (b i) (size i)))
+locate-is format A v f e = ap (λ f. located f (position64 format A (across f v) (chosenSize f v)) (position64 format A (down f v) (chosenSize f v))) e
 
 -- ---- a positive multiple of a ray is located where the ray is
 

@@ -172,7 +172,29 @@ pub position-cmp : (A s : ℕ) (x : ℤ) (d : ℕ) → 0 < d → x +ℤ pos d �
 unfolding position64 adjusted
 position-cmp A s x d h g = lifted-position A s d x h g
 
--- ACP takes three: its numerator 64·A·s + 25·d², with s = num + 25·d², divided by d and rounded down, of x = k and of x = −k
+-- so does ACP, of a numerator 64·A·s + 25·d² that exceeds 64 bits, with s = num + 25·d²: of x = k and of x = −k
+abbrev pub acpLift : ℤ → ℕ → ℕ
+acpLift x d = cond (isNegative x) (25 * d * d - bent d (natAbs x)) (bent d (natAbs x) + 25 * d * d)
+
+abbrev pub acpLifted : ℕ → ℤ → ℕ → ℕ
+acpLifted A x d = 64 * A * acpLift x d + 25 * d * d
+
+pub position-acp-lifted : (A : ℕ) (x : ℤ) (d : ℕ) → natAbs x ≤ d → 0 < d → position64 Format.Acp A x d ≡ pos (acpLifted A x d / (50 * d * d)) -ℤ pos 32
+unfolding position64 adjusted
+position-acp-lifted A x d h p =
+    lifted-position A (acpLift x d) (25 * d * d) (acp d x) (mul-pos (mul-pos {m = 25} (omega arith) p) p) (go x h)
+    ∙ ap (λ m. pos (acpLifted A x d / m) -ℤ pos 32) w
+  where
+    w : 2 * (25 * d * d) ≡ 50 * d * d
+    w = omega arith
+
+    go : (x : ℤ) → natAbs x ≤ d → acp d x +ℤ pos (25 * d * d) ≡ pos (acpLift x d)
+    go (pos k) h = ap (λ z. z +ℤ pos (25 * d * d)) (acp-is d (pos k) k h)
+    go (negsuc j) h =
+        ap (λ z. z +ℤ pos (25 * d * d)) (acp-is d (negsuc j) (suc j) h) ∙ +ℤ-comm (negℤ (pos (bent d (suc j)))) (pos (25 * d * d))
+        ∙ pos-sub (25 * d * d) (bent d (suc j)) (bent-most d (suc j) h)
+
+-- within 64 bits ACP takes three: its numerator divided by d and rounded down, of x = k and of x = −k
 abbrev acpAbove : ℕ → ℕ → ℕ → ℕ
 acpAbove A k d = 1600 * A * d + 25 * d + 2176 * A * k - 576 * A * (k * k / d) - (576 * A * (k * k % d) + (d - 1)) / d
 
@@ -255,24 +277,15 @@ module _ (A k d : ℕ) (h : k ≤ d) (p : 0 < d) where
 
 -- and then by 50·d: dividing twice is dividing by the product
 pub position-acp : (A : ℕ) (x : ℤ) (d : ℕ) → natAbs x ≤ d → 0 < d → position64 Format.Acp A x d ≡ pos (acpFirst A x d / (50 * d)) -ℤ pos 32
-unfolding position64 adjusted
-position-acp A x d h p = go x h
+position-acp A x d h p = position-acp-lifted A x d h p ∙ ap (λ q. pos q -ℤ pos 32)
+    (ap (λ m. acpLifted A x d / m) w ∙ sym (div-div-eq-div-mul (acpLifted A x d) d (50 * d)) ∙ ap (λ m. m / (50 * d)) (first x h))
   where
-    twice : (x : ℤ) (s f : ℕ) → acp d x +ℤ pos (25 * d * d) ≡ pos s → (64 * A * s + 25 * d * d) / d ≡ f
-        → positionOf A (ratio (acp d x) (25 * d * d)) ≡ pos (f / (50 * d)) -ℤ pos 32
-    twice x s f g e =
-        let n : ℕ = 64 * A * s + 25 * d * d in
-        let w : 2 * (25 * d * d) ≡ d * (50 * d) = omega arith in
-        lifted-position A s (25 * d * d) (acp d x) (mul-pos (mul-pos {m = 25} (omega arith) p) p) g
-        ∙ ap (λ q. pos q -ℤ pos 32) (ap (λ m. n / m) w ∙ sym (div-div-eq-div-mul n d (50 * d)) ∙ ap (λ m. m / (50 * d)) e)
+    w : 50 * d * d ≡ d * (50 * d)
+    w = omega arith
 
-    go : (x : ℤ) → natAbs x ≤ d → positionOf A (ratio (acp d x) (25 * d * d)) ≡ pos (acpFirst A x d / (50 * d)) -ℤ pos 32
-    go (pos k) h =
-        twice (pos k) (bent d k + 25 * d * d) (acpAbove A k d) (ap (λ z. z +ℤ pos (25 * d * d)) (acp-is d (pos k) k h)) (first-above A k d h p)
-    go (negsuc j) h = twice (negsuc j) (25 * d * d - bent d (suc j)) (acpBelow A (suc j) d)
-        (ap (λ z. z +ℤ pos (25 * d * d)) (acp-is d (negsuc j) (suc j) h) ∙ +ℤ-comm (negℤ (pos (bent d (suc j)))) (pos (25 * d * d))
-        ∙ pos-sub (25 * d * d) (bent d (suc j)) (bent-most d (suc j) h))
-        (first-below A (suc j) d h p)
+    first : (x : ℤ) → natAbs x ≤ d → acpLifted A x d / d ≡ acpFirst A x d
+    first (pos k) h = first-above A k d h p
+    first (negsuc j) h = first-below A (suc j) d h p
 
 -- for k = |x|, every number on the way is below 2^60, and no difference goes below zero
 pub record AcpFits (A k d : ℕ) : Type 0 where

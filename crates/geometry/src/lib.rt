@@ -6,11 +6,12 @@ ghost use lib.ListN.{getD};
 ghost use lib.IntN.{pos, natAbs};
 ghost use Rattle.cubemap.specs.Interface.{formatOf};
 ghost use Rattle.cubemap.specs.PlaceToRay as paper;
-ghost use Rattle.cubemap.specs.RayToPlace.{faceOf, chosenSize, across, down};
+ghost use Rattle.cubemap.specs.RayToPlace.{faceOf};
 ghost use Rattle.cubemap.specs.RayToPlace as toPlace;
 ghost use Rattle.cubemap.specs.Checks.{rayInRange, rayNonzero};
 ghost use Rattle.cubemap.specs.Outcomes.{lookedUpMeans, lookUpResult};
 ghost use Rattle.cubemap.proofs.Curves.{bent};
+ghost use Rattle.cubemap.proofs.Faces.{Row4};
 use cubemap::Format;
 use cubemap::Located;
 use cubemap::LookedUp;
@@ -137,19 +138,10 @@ pub fn table3(face: u64, s: i64, a: i64, b: i64) -> Ray
 
 // ---- from ray to place
 
-// What Table 4 gives for a ray: the face, u × d, v × d, and d.
-struct Facing {
-    face: u64,
-    across: i64,
-    down: i64,
-    distance: u64,
-}
-
-// Table 4. At equal sizes the earlier row wins.
-fn table4(v: Ray) -> Facing
+// The face that a ray meets: the tests of Table 4, row by row. At equal sizes the earlier row wins.
+pub fn face_of(v: Ray) -> u64
     requires { ⌜ T (rayInRange v) × T (rayNonzero v) ⌝ }
-    ensures { λ r. ⌜ (r .face ≡ faceOf v) × (r .across ≡ across (faceOf v) v) × (r .down ≡ down (faceOf v) v)
-        × (r .distance ≡ chosenSize (faceOf v) v) ⌝ }
+    ensures { λ r. ⌜ r ≡ faceOf v ⌝ }
 {
     let x = v.x;
     let y = v.y;
@@ -159,49 +151,68 @@ fn table4(v: Ray) -> Facing
     let sz = arithmetic::magnitude(z);
     if sy <= sx && sz <= sx {
         if 0 < x {
-            return Facing {
-                face: 0,
-                across: 0 - z,
-                down: 0 - y,
-                distance: sx,
-            };
+            return 0;
         }
-        return Facing {
-            face: 1,
-            across: z,
-            down: 0 - y,
-            distance: sx,
-        };
+        return 1;
     }
     if sx <= sy && sz <= sy {
         if 0 < y {
-            return Facing {
-                face: 2,
-                across: x,
-                down: z,
-                distance: sy,
-            };
+            return 2;
         }
-        return Facing {
-            face: 3,
-            across: x,
-            down: 0 - z,
-            distance: sy,
-        };
+        return 3;
     }
     if 0 < z {
-        return Facing {
-            face: 4,
+        return 4;
+    }
+    5
+}
+
+// A ray by the row of Table 4 for a face: u × d, v × d, and d, which is positive where the ray points towards the face.
+pub struct Facing {
+    pub across: i64,
+    pub down: i64,
+    pub toward: i64,
+}
+
+// A row of Table 4.
+pub fn table4(face: u64, v: Ray) -> Facing
+    requires { ⌜ (face < 6) × T (rayInRange v) ⌝ }
+    ensures { λ r. ⌜ Row4 face v (r .across) (r .down) (r .toward) ⌝ }
+{
+    let x = v.x;
+    let y = v.y;
+    let z = v.z;
+    match face {
+        0 => Facing {
+            across: 0 - z,
+            down: 0 - y,
+            toward: x,
+        },
+        1 => Facing {
+            across: z,
+            down: 0 - y,
+            toward: 0 - x,
+        },
+        2 => Facing {
+            across: x,
+            down: z,
+            toward: y,
+        },
+        3 => Facing {
+            across: x,
+            down: 0 - z,
+            toward: 0 - y,
+        },
+        4 => Facing {
             across: x,
             down: 0 - y,
-            distance: sz,
-        };
-    }
-    Facing {
-        face: 5,
-        across: 0 - x,
-        down: 0 - y,
-        distance: sz,
+            toward: z,
+        },
+        _ => Facing {
+            across: 0 - x,
+            down: 0 - y,
+            toward: 0 - z,
+        },
     }
 }
 
@@ -210,12 +221,11 @@ pub fn locate(format: Format, size: u64, v: Ray) -> Located
     requires { ⌜ (size ≤ 512) × T (rayInRange v) × T (rayNonzero v) ⌝ }
     ensures { λ r. ⌜ r ≡ toPlace.locate format size v ⌝ }
 {
-    let f = table4(v);
-    let face = f.face;
-    let d = f.distance;
-    let inverse = positions::inverse(d);
-    let column = positions::position(format, size, f.across, d, inverse);
-    let row = positions::position(format, size, f.down, d, inverse);
+    let face = face_of(v);
+    let f = table4(face, v);
+    let d = f.toward as u64;
+    let column = positions::position(format, size, f.across, d);
+    let row = positions::position(format, size, f.down, d);
     Located {
         face: face,
         column: column,

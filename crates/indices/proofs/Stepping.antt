@@ -144,6 +144,12 @@ steps-cong {A} e s = record {
 pub not-negative : {A : ℕ} {s : FaceSteps} {at : ℕ → ℕ → ℕ} → Steps A s at → (m n : ℕ) → m < A → n < A → T (nonNeg (stepped s m n))
 not-negative s m n p q = subst (λ z. T (nonNeg z)) (sym (s .gives m n p q)) tt
 
+-- b rows down and a columns across from a column and a row
+pub stepped-on : (s : FaceSteps) (m n a b : ℕ) → stepped s (m + a) (n + b) ≡ stepped s m n +ℤ pos b *ℤ s .down +ℤ pos a *ℤ s .across
+stepped-on s m n a b = solve (s .base ∷ pos m ∷ pos a ∷ s .across ∷ pos n ∷ pos b ∷ s .down ∷ [])
+    (var 0 ⊕ (var 1 ⊕ var 2) ⊗ var 3 ⊕ (var 4 ⊕ var 5) ⊗ var 6)
+    (var 0 ⊕ var 1 ⊗ var 3 ⊕ var 4 ⊗ var 6 ⊕ var 5 ⊗ var 6 ⊕ var 2 ⊗ var 3) tt
+
 -- where a step across is 1, a row lies unbroken
 pub steps-unbroken : {A : ℕ} {s : FaceSteps} {at : ℕ → ℕ → ℕ} → Steps A s at → s .across ≡ pos 1 → (m n : ℕ) → m < A → n < A → at m n ≡ at 0 n + m
 steps-unbroken {s = s} {at} w e m n p q = pos-inj (at m n) (at 0 n + m)

@@ -1,1 +1,4 @@
 pub mod Nearly
+pub mod Filling
+pub mod Doubles
+pub mod Stretches

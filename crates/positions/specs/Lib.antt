@@ -1,2 +1,4 @@
 pub mod Near
 pub mod Ratios
+pub mod Lines
+pub mod Doubles

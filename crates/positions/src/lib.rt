@@ -1,53 +1,127 @@
-// T of a ratio: where x / d of the way from the middle of a face to its edge lies, in 64ths of a sample. Divisions are exact; a double's guess saves most of them.
+// T of a ratio: where x / d of the way from the middle of a face to its edge lies, in 64ths of a sample. CMP takes one division of doubles, ACP one of whole numbers for both
+// numbers of a ray.
 ghost use mathlib.Core.Path.{_≡_};
-ghost use Prim.Native.Nat.{_/_, _≤_, _<_};
+ghost use Prim.Native.Nat.{ℕ, _/_, _≤_, _<_};
+ghost use lib.IntN.{ℤ, pos, natAbs, _+ℤ_, _*ℤ_};
+ghost use lib.ListN.{length};
 ghost use Rattle.cubemap.specs.RayToPlace.{position64};
 ghost use Rattle.cubemap.proofs.Positions.{acpFirst};
-ghost use Rattle.positions.specs.Near.{AcpNear};
+ghost use Rattle.arithmetic.specs.Doubles.{IsWhole};
+ghost use Rattle.positions.specs.Doubles.{CmpDoubles, WholeLine, IsAlong, numeratorLine, denominatorLine};
+ghost use Rattle.positions.specs.Near.{BentNear, AcpNear};
 ghost use Rattle.positions.specs.Ratios.{Ratio};
+ghost use Rattle.positions.specs.Lines.{lineAt, Even, Stretch, Positioned};
 use cubemap::Format;
 
+// A number of the rays along a run: at + by·a where the coordinate of the column is a.
+pub struct Line {
+    pub at: i64,
+    pub by: i64,
+}
+
+// The same with doubles.
+struct DoubleLine {
+    at: f64,
+    by: f64,
+}
+
 // A whole number as a double.
-fn as_double(n: u64) -> f64
-    requires { ⌜ n < 9007199254740992 ⌝ }
+fn whole_double(z: i64) -> f64
+    requires { ⌜ natAbs z ≤ 9007199254740992 ⌝ }
+    ensures { λ r. ⌜ IsWhole r z ⌝ }
 {
-    n as i64 as f64
+    z as f64
 }
 
-// About 1 / d. Nothing is promised of it, and nothing below depends on it but time.
-pub fn inverse(d: u64) -> f64
-    requires { ⌜ d ≤ 536870911 ⌝ }
+// 128·A·(x + d) + c as a double.
+fn numerator(size: u64, x: i64, d: i64, c: i64) -> f64
+    requires { ⌜ (size ≤ 512) × (natAbs x ≤ 536870911) × (natAbs d ≤ 536870911) × (natAbs c ≤ 1) ⌝ }
+    ensures { λ r. ⌜ IsWhole r (pos 128 *ℤ pos size *ℤ (x +ℤ d) +ℤ c) ⌝ }
 {
-    1.0 / as_double(d)
+    whole_double(128 * size as i64 * (x + d) + c)
 }
 
-// n / e. `ratio` is about n / e; rounded down it is the quotient, nearly always, and whole numbers tell where it is not. Any `ratio` will do.
-// A double is rounded down by taking nearly 1/2 off and adding 1.5·2^52, which leaves no bits for a fraction: the whole number then stands in the lowest bits.
-fn quotient(n: u64, e: u64, ratio: f64) -> u64
-    requires { ⌜ (0 < e) × (e ≤ 34359738368) ⌝ }
-    ensures { λ r. ⌜ r ≡ n / e ⌝ }
+// 4·d as a double.
+fn denominator(d: i64) -> f64
+    requires { ⌜ natAbs d ≤ 536870911 ⌝ }
+    ensures { λ r. ⌜ IsWhole r (pos 4 *ℤ d) ⌝ }
 {
-    let shifted = ratio - 0.499999 + 6755399441055744.0;
-    if 0.0 < shifted {
-        let q = f64::to_bits(shifted) % 536870912;
-        let part = q * e;
-        if part <= n {
-            if n - part < e {
-                return q;
-            }
-        }
-    }
-    n / e
+    whole_double(4 * d)
 }
 
-// T of x / d in CMP: one division, of a number that is not negative. Here and below, `inverse` is about 1 / d.
-fn cmp_position(size: u64, x: i64, d: u64, inverse: f64) -> i64
+// T of x / d in CMP by one division: m is 128·A·(x + d) + 1, and e is 4·d. So m / e lies less than 1/2 from T + 32, the 1 keeps it off the halves,
+// and as a double it still does, because rounding keeps the order. Adding 1.5·2^52 leaves no bits for a fraction: T + 32 then stands in the lowest bits.
+fn cmp_by_doubles(m: f64, e: f64) -> i64
+    requires { ⌜ ((A : ℕ) × (x : ℤ) × (d : ℕ) × CmpDoubles A x d m e) ⌝ }
+    ensures { λ r. ⌜ ((A : ℕ) (x : ℤ) (d : ℕ) → CmpDoubles A x d m e → r ≡ position64 Format.Cmp A x d) ⌝ }
+{
+    (f64::to_bits(m / e + 6755399441055744.0) % 65536) as i64 - 32
+}
+
+// T of x / d in CMP.
+fn cmp_position(size: u64, x: i64, d: u64) -> i64
     requires { ⌜ Ratio size x d ⌝ }
     ensures { λ r. ⌜ r ≡ position64 Format.Cmp size x d ⌝ }
 {
-    let s = (x + d as i64) as u64;
-    let n = 64 * size * s + d;
-    quotient(n, 2 * d, as_double(n) * inverse * 0.5) as i64 - 32
+    cmp_by_doubles(numerator(size, x, d as i64, 1), denominator(d as i64))
+}
+
+// 128·A·(x + d) + 1 along the lines of x and d.
+fn numerators(size: u64, x: Line, d: Line) -> DoubleLine
+    requires { ⌜ (size ≤ 512) × Even x × Even d ⌝ }
+    ensures { λ r. ⌜ WholeLine r (numeratorLine size x d) ⌝ }
+{
+    DoubleLine {
+        at: numerator(size, x.at, d.at, 1),
+        by: numerator(size, x.by, d.by, 0),
+    }
+}
+
+// 4·d along the line of d.
+fn denominators(d: Line) -> DoubleLine
+    requires { ⌜ Even d ⌝ }
+    ensures { λ r. ⌜ WholeLine r (denominatorLine d) ⌝ }
+{
+    DoubleLine {
+        at: denominator(d.at),
+        by: denominator(d.by),
+    }
+}
+
+// The number of a line where the coordinate is a.
+fn along(line: DoubleLine, a: f64) -> f64
+    ensures { λ r. ⌜ IsAlong line a r ⌝ }
+{
+    line.at + a * line.by
+}
+
+// T in CMP of each column of a stretch, and of its row. The loop has no branch and no division of whole numbers, so it runs on several columns at once.
+fn cmp_along(
+    size: u64,
+    across: Line,
+    down: Line,
+    distance: Line,
+    coordinates: &[i64; 512],
+    from: u64,
+    to: u64,
+    columns: &mut [i64; 512],
+    rows: &mut [i64; 512],
+)
+    requires { ⌜ Stretch size across down distance (now coordinates) from to × (length (now columns) ≡ 512) × (length (now rows) ≡ 512) ⌝ }
+    ensures { λ _. ⌜ Positioned Format.Cmp size across down distance (now (coordinates .entry)) from to (now (columns .exit)) (now (rows .exit))
+        × (length (now (columns .exit)) ≡ 512) × (length (now (rows .exit)) ≡ 512) ⌝ }
+{
+    let m = numerators(size, across, distance);
+    let n = numerators(size, down, distance);
+    let e = denominators(distance);
+    let mut j = from;
+    while j < to {
+        let a = whole_double(coordinates[j as usize]);
+        let d = along(e, a);
+        columns[j as usize] = cmp_by_doubles(along(m, a), d);
+        rows[j as usize] = cmp_by_doubles(along(n, a), d);
+        j += 1;
+    }
 }
 
 // The numerator of T + 32 in ACP, which exceeds 64 bits, divided by d and rounded down: by the quotient and the remainder of x² / d.
@@ -68,45 +142,136 @@ fn acp_first(size: u64, x: i64, d: u64) -> u64
     }
 }
 
-// That number, or at most 576·A more: by the quotient of x² / d alone.
-fn acp_near(size: u64, x: i64, d: u64, inverse: f64) -> u64
-    requires { ⌜ Ratio size x d ⌝ }
+// 2^60 / d rounded down, once for each ray.
+fn reciprocal(d: u64) -> u64
+    requires { ⌜ 0 < d ⌝ }
+    ensures { λ r. ⌜ r ≡ 1152921504606846976 / d ⌝ }
+{
+    1152921504606846976 / d
+}
+
+// Nearly equation 14's numerator, on a scale of 2^40 for each d²: k·(34d − 9k), with t / 2^28 in place of k / d.
+fn bent_near(k: u64, d: u64, reciprocal: u64) -> u64
+    requires { ⌜ (k ≤ d) × (0 < d) × (d ≤ 536870911) × (reciprocal ≡ 1152921504606846976 / d) ⌝ }
+    ensures { λ r. ⌜ BentNear k d r ⌝ }
+{
+    let t = (k * reciprocal) >> 32;
+    (t * (9126805504 - 9 * t)) >> 16
+}
+
+// Nearly the numerator of T + 32, on that scale: at most 17,825,856·A less.
+fn acp_near(size: u64, x: i64, d: u64, reciprocal: u64) -> u64
+    requires { ⌜ Ratio size x d × (reciprocal ≡ 1152921504606846976 / d) ⌝ }
     ensures { λ r. ⌜ AcpNear size x d r ⌝ }
 {
-    let k = arithmetic::magnitude(x);
-    let about = as_double(k);
-    let whole = 576 * size * quotient(k * k, d, about * about * inverse);
-    let linear = 2176 * size * k;
-    let middle = 1600 * size * d + 25 * d;
+    let part = 64 * size * bent_near(arithmetic::magnitude(x), d, reciprocal);
+    let middle = 1759218604441600 * size + 27487790694400;
     if x < 0 {
-        middle + whole + 576 * size - linear
+        middle - part - 17825856 * size
     } else {
-        middle + linear - whole
+        middle + part
     }
 }
 
-// T of x / d in ACP. The nested divisions are exact; where 576·A less than `near` has the same quotient by 50·d, the second of the three cannot matter and is not made.
-fn acp_position(size: u64, x: i64, d: u64, inverse: f64) -> i64
-    requires { ⌜ Ratio size x d ⌝ }
+// T of x / d in ACP; `reciprocal` is that of d. Where `near` and the most that it may fall short by have one quotient by 50·2^40, that is T + 32. Elsewhere,
+// about once in 2,800 rays and at each exact tie, the nested divisions give it.
+fn acp_position(size: u64, x: i64, d: u64, reciprocal: u64) -> i64
+    requires { ⌜ Ratio size x d × (reciprocal ≡ 1152921504606846976 / d) ⌝ }
     ensures { λ r. ⌜ r ≡ position64 Format.Acp size x d ⌝ }
 {
-    let near = acp_near(size, x, d, inverse);
-    let e = 50 * d;
-    let q = quotient(near, e, as_double(near) * inverse * 0.02);
-    if 576 * size <= near - q * e {
-        q as i64 - 32
+    let near = acp_near(size, x, d, reciprocal);
+    if near % 54975581388800 + 17825856 * size < 54975581388800 {
+        (near / 54975581388800) as i64 - 32
     } else {
-        (acp_first(size, x, d) / e) as i64 - 32
+        (acp_first(size, x, d) / (50 * d)) as i64 - 32
     }
 }
 
 // T of x / d.
-pub fn position(format: Format, size: u64, x: i64, d: u64, inverse: f64) -> i64
+pub fn position(format: Format, size: u64, x: i64, d: u64) -> i64
     requires { ⌜ Ratio size x d ⌝ }
     ensures { λ r. ⌜ r ≡ position64 format size x d ⌝ }
 {
     match format {
-        Format::Cmp => cmp_position(size, x, d, inverse),
-        Format::Acp => acp_position(size, x, d, inverse),
+        Format::Cmp => cmp_position(size, x, d),
+        Format::Acp => acp_position(size, x, d, reciprocal(d)),
+    }
+}
+
+// The number of a line at a coordinate.
+fn line_at(l: Line, a: i64) -> i64
+    requires { ⌜ Even l × (natAbs a ≤ 65536) ⌝ }
+    ensures { λ r. ⌜ r ≡ lineAt l a ⌝ }
+{
+    l.at + a * l.by
+}
+
+// The positions of a stretch in ACP, column by column: one division for both of a ray's.
+fn acp_along(
+    size: u64,
+    across: Line,
+    down: Line,
+    distance: Line,
+    coordinates: &[i64; 512],
+    from: u64,
+    to: u64,
+    columns: &mut [i64; 512],
+    rows: &mut [i64; 512],
+)
+    requires { ⌜ Stretch size across down distance (now coordinates) from to × (length (now columns) ≡ 512) × (length (now rows) ≡ 512) ⌝ }
+    ensures { λ _. ⌜ Positioned Format.Acp size across down distance (now (coordinates .entry)) from to (now (columns .exit)) (now (rows .exit))
+        × (length (now (columns .exit)) ≡ 512) × (length (now (rows .exit)) ≡ 512) ⌝ }
+{
+    let mut j = from;
+    while j < to {
+        let a = coordinates[j as usize];
+        let d = line_at(distance, a) as u64;
+        let r = reciprocal(d);
+        columns[j as usize] = acp_position(size, line_at(across, a), d, r);
+        rows[j as usize] = acp_position(size, line_at(down, a), d, r);
+        j += 1;
+    }
+}
+
+// The positions of a stretch, in either format.
+pub fn positions_along(
+    format: Format,
+    size: u64,
+    across: Line,
+    down: Line,
+    distance: Line,
+    coordinates: &[i64; 512],
+    from: u64,
+    to: u64,
+    columns: &mut [i64; 512],
+    rows: &mut [i64; 512],
+)
+    requires { ⌜ Stretch size across down distance (now coordinates) from to × (length (now columns) ≡ 512) × (length (now rows) ≡ 512) ⌝ }
+    ensures { λ _. ⌜ Positioned format size across down distance (now (coordinates .entry)) from to (now (columns .exit)) (now (rows .exit))
+        × (length (now (columns .exit)) ≡ 512) × (length (now (rows .exit)) ≡ 512) ⌝ }
+{
+    match format {
+        Format::Cmp => cmp_along(
+            size,
+            across,
+            down,
+            distance,
+            coordinates,
+            from,
+            to,
+            columns,
+            rows,
+        ),
+        Format::Acp => acp_along(
+            size,
+            across,
+            down,
+            distance,
+            coordinates,
+            from,
+            to,
+            columns,
+            rows,
+        ),
     }
 }

@@ -1,3 +1,3 @@
-pub mod Placing
 pub mod SlotRays
 pub mod RunRays
+pub mod StretchRays

@@ -1,11 +1,12 @@
 -- The rays of a run of the target: those of the places at its indices, rotated, are the start moved by the coordinates of the columns.
-use mathlib.Core.Path.{_≡_, sym, _∙_, ap, ap₂, subst}
+use mathlib.Core.Path.{_≡_, sym, _∙_, ap, ap₂, subst, subst₂}
 use mathlib.Core.List.{List}
 use Prim.Native.Nat.{ℕ, _+_, _*_, _-_, _/_, _%_, _≤_, _<_}
 use native.Mathlib.Nat.{mod-lt, le-trans, le-of-lt, mul-le-mul-left}
 use native.Mathlib.Omega.{arith}
 use lib.IntN.{ℤ, pos, natAbs}
 use lib.ListN.{getD}
+use lib.Signed.{_≤ℤ_}
 use Rattle.cubemap.specs.declared.Ray.{Ray}
 use Rattle.cubemap.specs.Frames.{place, planeSamples, faceIn, quarterTurnsIn, Spot, spot, quarterTurns, placeAt}
 use Rattle.cubemap.specs.PlaceToRay.{N, scale, rayOf}
@@ -104,5 +105,7 @@ module _ (c : Conversion) (table : List ℤ) (L : List ℕ) (ready : TargetReady
     step-ok = rotated-ray (c .rotation) _ (ready .rotation-in-range) (ready .rotation-nonzero)
         (slot-place-ray face turns (pos 0) (pos 1) (pos 0) (omega arith) (omega arith) (omega arith) (omega arith)) .in-range;
     small = coordinate-small;
+    rising = λ m n l p. subst₂ _≤ℤ_ (sym (ready .coordinate m (omega arith))) (sym (ready .coordinate n p))
+        (coordinates (c .target .format) A .rises m n l);
     leads = ray-leads;
   }

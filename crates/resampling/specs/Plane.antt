@@ -1,16 +1,17 @@
 -- What the plane converter is given, and what it gives at each index of the target.
 use mathlib.Core.Path.{_≡_}
-use mathlib.Core.List.{List, _++_}
+use mathlib.Core.List.{List}
 use Prim.Native.Nat.{ℕ, zero, suc, _+_, _*_, _≤_, _<_}
 use lib.Dec.{T}
 use lib.IntN.{ℤ, pos, negℤ, natAbs}
-use lib.ListN.{getD, take, drop}
+use lib.ListN.{getD}
+use lib.Signed.{_≤ℤ_}
 use Rattle.cubemap.specs.declared.Ray.{Ray}
 use Rattle.cubemap.specs.declared.Rotation.{Rotation}
-use Rattle.cubemap.specs.Frames.{framed, placeAt}
+use Rattle.cubemap.specs.Frames.{placeAt}
 use Rattle.cubemap.specs.PlaceToRay.{scale, faceCoordinate, table3, rayOf}
 use Rattle.cubemap.specs.Rotations.{rotated}
-use Rattle.cubemap.specs.RayToPlace.{locate}
+use Rattle.cubemap.specs.RayToPlace.{faceOf, locate}
 use Rattle.cubemap.specs.Samplers.{sampleFrom}
 use Rattle.cubemap.specs.Checks.{depthOK, layoutOK, rotationInRange, rotationNonzero, rayInRange}
 use Rattle.cubemap.proofs.Rotations.{along}
@@ -37,12 +38,17 @@ pub record TargetReady (c : Conversion) (coordinates : List ℤ) (L : List ℕ) 
   pub rotation-in-range : T (rotationInRange (c .rotation))
   pub rotation-nonzero : T (rotationNonzero (c .rotation))
 
--- the rays of a run: the columns' coordinates times a step from a start
+-- the rays of a run: the columns' coordinates, which rise, times a step from a start
 pub record Runs (A : ℕ) (coordinates : List ℤ) (start step : Ray) : Type 0 where
   pub start-ok : T (rayInRange start)
   pub step-ok : T (rayInRange step)
   pub small : (m : ℕ) → m < A → natAbs (getD coordinates m (pos 0)) ≤ 65536
+  pub rising : (m n : ℕ) → m ≤ n → n < A → getD coordinates m (pos 0) ≤ℤ getD coordinates n (pos 0)
   pub leads : (m : ℕ) → m < A → RotatedRay (along start (getD coordinates m (pos 0)) step)
+
+-- the rays of a run at the columns from `from` on and before `to` meet one face of the source
+pub record OneFace (coordinates : List ℤ) (start step : Ray) (face from to : ℕ) : Type 0 where
+  pub meets : (m : ℕ) → from ≤ m → m < to → faceOf (along start (getD coordinates m (pos 0)) step) ≡ face
 
 -- ---- rays of a slot
 
@@ -71,7 +77,3 @@ valueOn c plane steps v =
 abbrev pub valueAtIndex : Conversion → List ℕ → List ℕ → List ℤ → ℕ → ℕ
 valueAtIndex c L plane steps i =
     valueOn c plane steps (rotated (c .rotation) (rayOf (c .target .format) (c .target .size) (placeAt (c .target .size) L i)))
-
--- bytes in which n samples from the index `from` on are those of g, and every other byte stays
-abbrev pub placed : List ℕ → ℕ → (ℕ → ℕ) → ℕ → List ℕ
-placed bytes from g n = take (2 * from) bytes ++ framed g n ++ drop (2 * (from + n)) bytes

@@ -1,19 +1,23 @@
 // From the plane of a source to the plane of a target. The target is written in the order of its indices, run after run: a run is a row of a
 // slot. Along it the rotated ray moves by a multiple of one axis, so the matrix is applied twice a run and not to every ray.
 ghost use mathlib.Core.Path.{_≡_};
-ghost use Prim.Native.Nat.{_+_, _*_, _≤_, _<_};
+ghost use Prim.Native.Nat.{_+_, _*_, _-_, _≤_, _<_};
 ghost use lib.Dec.{T};
 ghost use lib.IntN.{pos, natAbs};
 ghost use lib.ListN.{length, getD};
 ghost use Rattle.cubemap.specs.Frames.{layoutBytes, planeSamples, framed};
+ghost use Rattle.cubemap.specs.RayToPlace.{faceOf};
 ghost use Rattle.cubemap.specs.Checks.{rotationInRange, rayInRange, rayNonzero};
 ghost use Rattle.cubemap.proofs.Rotations.{along};
-ghost use Rattle.resampling.specs.Plane.{slotRay, runStart, runStep, SourceReady, TargetReady, Runs, valueOn, valueAtIndex, placed};
+ghost use Rattle.cubemap.proofs.RotatedRays.{RotatedRay};
+ghost use Rattle.frame.specs.Placing.{placed};
+ghost use Rattle.resampling.specs.Plane.{slotRay, runStart, runStep, SourceReady, TargetReady, Runs, OneFace, valueOn, valueAtIndex};
 use cubemap::Format;
 use cubemap::Layout;
 use cubemap::Ray;
 use cubemap::Rotation;
 use cubemap::Sampler;
+use positions::Line;
 
 // One end of a conversion: the face size and the format of its cube.
 pub struct Cube {
@@ -81,28 +85,109 @@ fn run_step(t: Rotation, face: u64, turns: u64) -> Ray
     rotation::rotate(t, slot_ray(face, turns, 0, 1, 0))
 }
 
+// ---- stretches of a run
+
+// The face of the source that the ray u steps on meets.
+fn face_along(start: Ray, ray_step: Ray, u: i64) -> u64
+    requires { ⌜ T (rayInRange start) × T (rayInRange «ray_step») × (natAbs u ≤ 65536) × RotatedRay (along start u «ray_step») ⌝ }
+    ensures { λ r. ⌜ r ≡ faceOf (along start u «ray_step») ⌝ }
+{
+    geometry::face_of(ray_along(start, ray_step, u))
+}
+
+// Where a stretch ends that starts at the column `from` and stays on the face met there: at the end of the run, or after half of it, or of that.
+// The rays that meet a face have no gap, so it is enough to look at the last one.
+fn stretch_end(
+    size: u64,
+    coordinates: &[i64; 512],
+    start: Ray,
+    ray_step: Ray,
+    from: u64,
+    face: u64,
+) -> u64
+    requires { ⌜ Runs size (now coordinates) start «ray_step» × (size ≤ 512) × (from < size) ⌝ }
+    requires { ⌜ face ≡ faceOf (along start (getD (now coordinates) from (pos 0)) «ray_step») ⌝ }
+    ensures { λ r. ⌜ (from < r) × (r ≤ size) × OneFace (now (coordinates .entry)) start «ray_step» face from r ⌝ }
+{
+    let mut to: u64 = size;
+    while face_along(start, ray_step, coordinates[(to - 1) as usize]) != face {
+        to = from + (to - from) / 2;
+    }
+    to
+}
+
 // ---- samples
 
-// The sampler's value where a ray meets the source.
-fn value_on(
+// The samples along a stretch of a run: first where its rays meet the face, all of them, then the sampler's values there. `at` is the index where
+// the run begins.
+fn convert_stretch(
     c: Conversion,
     source: &[u8],
     source_steps: &[i64; 18],
     weights: &[i64; 256],
-    v: Ray,
-) -> u64
-    requires { ⌜ SourceReady c (now source) (now «source_steps») (now weights) × T (rayInRange v) × T (rayNonzero v) ⌝ }
-    ensures { λ r. ⌜ (r ≡ valueOn c (now (source .entry)) (now («source_steps» .entry)) v) × (r < 65536) ⌝ }
+    coordinates: &[i64; 512],
+    start: Ray,
+    ray_step: Ray,
+    face: u64,
+    from: u64,
+    to: u64,
+    at: u64,
+    columns: &mut [i64; 512],
+    rows: &mut [i64; 512],
+    target: &mut [u8],
+)
+    requires { ⌜ SourceReady c (now source) (now «source_steps») (now weights) × Runs (c .target .size) (now coordinates) start «ray_step» ⌝ }
+    requires { ⌜ (c .target .size ≤ 512) × (face < 6) × (from ≤ to) × (to ≤ c .target .size) × OneFace (now coordinates) start «ray_step» face from to ⌝ }
+    requires { ⌜ (at ≤ 1572864) × (2 * (at + c .target .size) ≤ length (now target)) × (length (now columns) ≡ 512) × (length (now rows) ≡ 512) ⌝ }
+    ensures { λ _. ⌜ (now (target .exit) ≡ placed (now (target .entry)) (at + from)
+        (λ j. valueOn c (now (source .entry)) (now («source_steps» .entry)) (along start (getD (now (coordinates .entry)) (from + j) (pos 0)) «ray_step»))
+        (to - from)) × (length (now (columns .exit)) ≡ 512) × (length (now (rows .exit)) ≡ 512) ⌝ }
 {
     let cube = c.source;
     let size = cube.size;
     let format = cube.format;
     let sampler = c.sampler;
-    let p = geometry::locate(format, size, v);
-    sampling::sample_from(sampler, source, size, source_steps, weights, c.depth, p)
+    let first = geometry::table4(face, start);
+    let more = geometry::table4(face, ray_step);
+    positions::positions_along(
+        format,
+        size,
+        Line {
+            at: first.across,
+            by: more.across,
+        },
+        Line {
+            at: first.down,
+            by: more.down,
+        },
+        Line {
+            at: first.toward,
+            by: more.toward,
+        },
+        coordinates,
+        from,
+        to,
+        columns,
+        rows,
+    );
+    sampling::sample_along(
+        sampler,
+        source,
+        size,
+        source_steps,
+        weights,
+        c.depth,
+        face,
+        columns,
+        rows,
+        from,
+        to,
+        at,
+        target,
+    );
 }
 
-// The samples along a run, from index `from` on: as many as a face has columns.
+// The samples along a run, from index `at` on: as many as a face has columns, stretch by stretch.
 fn convert_along(
     c: Conversion,
     source: &[u8],
@@ -111,23 +196,41 @@ fn convert_along(
     coordinates: &[i64; 512],
     start: Ray,
     ray_step: Ray,
-    from: u64,
+    at: u64,
+    columns: &mut [i64; 512],
+    rows: &mut [i64; 512],
     target: &mut [u8],
 )
     requires { ⌜ SourceReady c (now source) (now «source_steps») (now weights) × Runs (c .target .size) (now coordinates) start «ray_step» ⌝ }
-    requires { ⌜ (c .target .size ≤ 512) × (from ≤ 1572864) × (2 * (from + c .target .size) ≤ length (now target)) ⌝ }
-    ensures { λ _. ⌜ now (target .exit) ≡ placed (now (target .entry)) from
+    requires { ⌜ (c .target .size ≤ 512) × (at ≤ 1572864) × (2 * (at + c .target .size) ≤ length (now target)) ⌝ }
+    requires { ⌜ (length (now columns) ≡ 512) × (length (now rows) ≡ 512) ⌝ }
+    ensures { λ _. ⌜ (now (target .exit) ≡ placed (now (target .entry)) at
         (λ j. valueOn c (now (source .entry)) (now («source_steps» .entry)) (along start (getD (now (coordinates .entry)) j (pos 0)) «ray_step»))
-        (c .target .size) ⌝ }
+        (c .target .size)) × (length (now (columns .exit)) ≡ 512) × (length (now (rows .exit)) ≡ 512) ⌝ }
 {
     let cube = c.target;
     let size = cube.size;
-    let mut column: u64 = 0;
-    while column < size {
-        let v = ray_along(start, ray_step, coordinates[column as usize]);
-        let value = value_on(c, source, source_steps, weights, v);
-        frame::put_sample(target, (from + column) as usize, value);
-        column += 1;
+    let mut from: u64 = 0;
+    while from < size {
+        let face = face_along(start, ray_step, coordinates[from as usize]);
+        let to = stretch_end(size, coordinates, start, ray_step, from, face);
+        convert_stretch(
+            c,
+            source,
+            source_steps,
+            weights,
+            coordinates,
+            start,
+            ray_step,
+            face,
+            from,
+            to,
+            at,
+            columns,
+            rows,
+            target,
+        );
+        from = to;
     }
 }
 
@@ -140,12 +243,16 @@ fn convert_run(
     coordinates: &[i64; 512],
     layout: Layout,
     run: u64,
+    columns: &mut [i64; 512],
+    rows: &mut [i64; 512],
     target: &mut [u8],
 )
     requires { ⌜ SourceReady c (now source) (now «source_steps») (now weights) × TargetReady c (now coordinates) (layoutBytes layout) ⌝ }
     requires { ⌜ (run < 6 * c .target .size) × (length (now target) ≡ 2 * planeSamples (c .target .size)) ⌝ }
-    ensures { λ _. ⌜ now (target .exit) ≡ placed (now (target .entry)) (run * c .target .size)
-        (λ j. valueAtIndex c (layoutBytes layout) (now (source .entry)) (now («source_steps» .entry)) (run * c .target .size + j)) (c .target .size) ⌝ }
+    requires { ⌜ (length (now columns) ≡ 512) × (length (now rows) ≡ 512) ⌝ }
+    ensures { λ _. ⌜ (now (target .exit) ≡ placed (now (target .entry)) (run * c .target .size)
+        (λ j. valueAtIndex c (layoutBytes layout) (now (source .entry)) (now («source_steps» .entry)) (run * c .target .size + j)) (c .target .size))
+        × (length (now (columns .exit)) ≡ 512) × (length (now (rows .exit)) ≡ 512) ⌝ }
 {
     let cube = c.target;
     let size = cube.size;
@@ -165,6 +272,8 @@ fn convert_run(
         start,
         ray_step,
         run * size,
+        columns,
+        rows,
         target,
     );
 }
@@ -186,6 +295,8 @@ pub fn convert_plane(
 {
     let cube = c.target;
     let runs = 6 * cube.size;
+    let mut columns = [0; 512];
+    let mut rows = [0; 512];
     let mut run: u64 = 0;
     while run < runs {
         convert_run(
@@ -196,6 +307,8 @@ pub fn convert_plane(
             coordinates,
             layout,
             run,
+            &mut columns,
+            &mut rows,
             target,
         );
         run += 1;

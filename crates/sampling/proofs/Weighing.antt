@@ -1,5 +1,5 @@
 -- Numbers by their weights: how large the sum is, rows of four samples and four such rows, and taps inside a face.
-use mathlib.Core.Path.{_≡_, refl, sym, _∙_, ap, ap₂, subst}
+use mathlib.Core.Path.{_≡_, refl, sym, _∙_, ap₂, subst}
 use mathlib.Core.List.{[], _∷_}
 use Prim.Native.Nat.{ℕ, _+_, _*_, _^_, _≤_, _<_}
 use native.Mathlib.Nat.{mul-le-mul}
@@ -62,9 +62,6 @@ pub firstℤ : (z : ℤ) → z ≡ z +ℤ pos 0
 firstℤ z = solve (z ∷ []) (var 0) (var 0 ⊕ con (pos 0)) tt
 
 -- the same sum, at an equal place
-pub sum-at : {X : Type 0} {B : ℕ} {z : ℤ} (g : X → ℤ) {x y : X} → x ≡ y → IsSum B z (g x) → IsSum B z (g y)
-sum-at g e (is, small) = (is ∙ ap g e, small)
-
 pub sum-at₂ : {X Y : Type 0} {B : ℕ} {z : ℤ} (g : X → Y → ℤ) {x u : X} {y v : Y} → x ≡ u → y ≡ v → IsSum B z (g x y) → IsSum B z (g u v)
 sum-at₂ g e d (is, small) = (is ∙ ap₂ g e d, small)
 

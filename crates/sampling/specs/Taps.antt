@@ -3,11 +3,18 @@ use mathlib.Core.Path.{_≡_}
 use mathlib.Core.Bool.{Bool, false}
 use mathlib.Core.List.{List}
 use Prim.Native.Nat.{ℕ, _+_, _*_, _≤_, _<_}
-use lib.Dec.{ltb}
+use lib.Dec.{T, ltb}
 use lib.IntN.{ℤ, pos, negsuc, natAbs, _+ℤ_, _*ℤ_}
-use lib.ListN.{getD}
+use lib.Signed.{nonNeg}
+use lib.ListN.{length, getD}
+use Rattle.arithmetic.specs.Integers.{natural}
 use Rattle.cubemap.specs.declared.Place.{Place}
-use Rattle.cubemap.specs.Samplers.{tapPlace, tapWeight, overTaps}
+use Rattle.cubemap.specs.declared.Sampler.{Sampler}
+use Rattle.cubemap.specs.RayToPlace.{located}
+use Rattle.cubemap.specs.Samplers.{nearestColumn, tapPlace, tapWeight, overTaps, sampleFrom}
+use Rattle.cubemap.proofs.Positions.{InRange}
+use Rattle.indices.specs.declared.FaceSteps.{FaceSteps}
+use Rattle.indices.specs.Steps.{sampleBySteps}
 use Rattle.sampling.specs.declared.Weights.{Weights}
 
 -- a table of the tap weights, phases 0 to 63: "The 256 weights stand as a table .. each phase adding to 524,288"
@@ -38,11 +45,36 @@ rowSum u s = weighed u (pos (s 0)) (pos (s 1)) (pos (s 2)) (pos (s 3))
 abbrev pub gridSum : Weights → Weights → (ℕ → ℕ → ℕ) → ℤ
 gridSum w u s = weighed w (rowSum u (s 0)) (rowSum u (s 1)) (rowSum u (s 2)) (rowSum u (s 3))
 
+-- a plane has four samples from the index z on, each a step d from the one before
+pub record FourIn (plane : List ℕ) (z d : ℤ) : Type 0 where
+  pub least : (i : ℕ) → i < 4 → T (nonNeg (z +ℤ pos i *ℤ d))
+  pub most : (i : ℕ) → i < 4 → 2 * natural (z +ℤ pos i *ℤ d) + 1 < length plane
+
 -- what the sixteen taps from a column x and a row y on read: tap i of row j
 abbrev pub tapped : (Place → ℕ) → ℕ → ℕ → ℤ → ℤ → ℕ → ℕ → ℕ
 tapped sample A f x y j i = sample (tapPlace A f (x +ℤ pos i) (y +ℤ pos j))
+
+-- the samples of a face by its steps: the number of the face is not looked at
+abbrev pub onFace : List ℕ → FaceSteps → Place → ℕ
+onFace plane s P = sampleBySteps plane s (P .column) (P .row)
 
 -- four columns, or rows, from this one on are inside a face of size A
 abbrev pub inFace : ℕ → ℤ → Bool
 inFace A (pos m) = ltb (m + 3) A
 inFace A (negsuc m) = false
+
+-- ---- the samplers' values at a column x and a row y, by the steps of the face
+
+abbrev pub nearestOn : List ℕ → FaceSteps → ℕ → ℤ → ℤ → ℕ
+nearestOn plane s A x y = sampleBySteps plane s (nearestColumn A x) (nearestColumn A y)
+
+-- what is read does not depend on the number of the face, for which 0 stands
+abbrev pub cubicOn : List ℕ → FaceSteps → ℕ → ℕ → ℤ → ℤ → ℕ
+cubicOn plane s A D x y = sampleFrom Sampler.Cubic A D (onFace plane s) (located 0 x y)
+
+-- ---- a stretch of positions
+
+-- the positions from number `from` up to number `to`, in a table of columns and one of rows, are on a face of size A
+pub record OnFaces (A from to : ℕ) (columns rows : List ℤ) : Type 0 where
+  pub column-ok : (j : ℕ) → from ≤ j → j < to → InRange A (getD columns j (pos 0))
+  pub row-ok : (j : ℕ) → from ≤ j → j < to → InRange A (getD rows j (pos 0))

@@ -1,23 +1,25 @@
 // The two samplers: the value at a position of a face, nearest or cubic.
 ghost use mathlib.Core.Path.{_≡_};
-ghost use Prim.Native.Nat.{_+_, _*_, _^_, _≤_, _<_};
+ghost use Prim.Native.Nat.{_+_, _*_, _-_, _^_, _≤_, _<_};
 ghost use lib.Dec.{T};
-ghost use lib.IntN.{pos, natAbs, _+ℤ_};
-ghost use lib.ListN.{length};
+ghost use lib.IntN.{pos, natAbs, _+ℤ_, _*ℤ_};
+ghost use lib.Signed.{nonNeg};
+ghost use lib.ListN.{length, getD};
+ghost use Rattle.arithmetic.specs.Integers.{natural};
 ghost use Rattle.cubemap.specs.Interface.{samplerOf};
-ghost use Rattle.cubemap.specs.Frames.{IsPlace, sampleAt};
+ghost use Rattle.cubemap.specs.Frames.{sampleAt};
 ghost use Rattle.cubemap.specs.Checks.{depthOK};
-ghost use Rattle.cubemap.specs.Samplers.{nearestColumn, nearestPlace, tapAt, tapPlace, cubicSum, sampleFrom};
+ghost use Rattle.cubemap.specs.RayToPlace.{located};
+ghost use Rattle.cubemap.specs.Samplers.{nearestColumn, tapAt, tapPlace, cubicSum, sampleFrom};
 ghost use Rattle.cubemap.specs.Samplers as paper;
 ghost use Rattle.cubemap.proofs.Positions.{InRange};
-ghost use Rattle.cubemap.proofs.Locate.{OnFace};
+ghost use Rattle.frame.specs.Placing.{placed};
 ghost use Rattle.indices.specs.Steps.{SteppedFace, SteppedPlane, sampleBySteps, sampleBy};
-ghost use Rattle.sampling.specs.Taps.{IsWeights, weightsOf, Small, weighed, rowSum, gridSum, tapped, inFace};
+ghost use Rattle.sampling.specs.Taps.{IsWeights, weightsOf, Small, weighed, rowSum, gridSum, FourIn, tapped, onFace, inFace};
+ghost use Rattle.sampling.specs.Taps.{nearestOn, cubicOn, OnFaces};
 
 mod table;
 
-use cubemap::Located;
-use cubemap::Place;
 use cubemap::Sampler;
 use indices::FaceSteps;
 
@@ -32,24 +34,14 @@ fn nearest_column(size: u64, t: i64) -> u64
     if column == size { size - 1 } else { column }
 }
 
-// The sample at the nearest place.
-fn nearest(plane: &[u8], size: u64, steps: &[i64; 18], p: Located) -> u64
-    requires { ⌜ SteppedPlane size (now plane) (now steps) × OnFace size p ⌝ }
-    ensures { λ r. ⌜ (r ≡ sampleBy (now (plane .entry)) (now (steps .entry)) (nearestPlace size p)) × (r < 65536) ⌝ }
+// The sample at the nearest column and row of a face.
+fn nearest(plane: &[u8], size: u64, steps: FaceSteps, column: i64, row: i64) -> u64
+    requires { ⌜ SteppedFace size (now plane) steps × (1 ≤ size) × InRange size column × InRange size row ⌝ }
+    ensures { λ r. ⌜ (r ≡ nearestOn (now (plane .entry)) steps size column row) × (r < 65536) ⌝ }
 {
-    let face = p.face;
-    let column = nearest_column(size, p.column);
-    let row = nearest_column(size, p.row);
-    indices::sample_by(
-        plane,
-        size,
-        steps,
-        Place {
-            face: face,
-            column: column,
-            row: row,
-        },
-    )
+    let m = nearest_column(size, column);
+    let n = nearest_column(size, row);
+    indices::sample_by_steps(plane, size, steps, m, n)
 }
 
 // ---- the weights of taps
@@ -139,29 +131,30 @@ fn taps_of_row(row: &[u8], column: u64, u: Weights) -> i64
     weigh_samples(u, a, b, c, d)
 }
 
-// Four taps of a row of a face that is not turned: the row lies unbroken, and is handed on as a part of the plane.
-fn row_by_part(plane: &[u8], size: u64, steps: FaceSteps, column: u64, row: u64, u: Weights) -> i64
-    requires { ⌜ Small u × SteppedFace size (now plane) steps × (column + 3 < size) × (row < size) × (steps .across ≡ pos 1) ⌝ }
-    ensures { λ r. ⌜ (r ≡ rowSum u (λ i. sampleBySteps (now (plane .entry)) steps (column + i) row)) × (natAbs r ≤ 2 ^ 37) ⌝ }
+// Four taps of a row of a face that is not turned: the row lies unbroken from the index of its first sample on, and is handed on as a part.
+fn row_by_part(plane: &[u8], size: u64, first: i64, column: u64, u: Weights) -> i64
+    requires { ⌜ Small u × (size ≤ 512) × (column + 3 < size) × (natAbs first ≤ 2 ^ 21) ⌝ }
+    requires { ⌜ T (nonNeg first) × (2 * (natural first + size) ≤ length (now plane)) ⌝ }
+    ensures { λ r. ⌜ (r ≡ rowSum u (λ i. sampleAt (now (plane .entry)) (natural first + (column + i)))) × (natAbs r ≤ 2 ^ 37) ⌝ }
 {
-    let from = 2 * (indices::step_to(steps, 0, row) as usize);
+    let from = 2 * (first as usize);
     let to = from + 2 * (size as usize);
     taps_of_row(&plane[from..to], column, u)
 }
 
-// Four taps of a row of any face.
-fn row_by_steps(plane: &[u8], size: u64, steps: FaceSteps, column: u64, row: u64, u: Weights) -> i64
-    requires { ⌜ Small u × SteppedFace size (now plane) steps × (column + 3 < size) × (row < size) ⌝ }
-    ensures { λ r. ⌜ (r ≡ rowSum u (λ i. sampleBySteps (now (plane .entry)) steps (column + i) row)) × (natAbs r ≤ 2 ^ 37) ⌝ }
+// Four taps of a row of any face, from the index of the first on.
+fn row_from(plane: &[u8], first: i64, across: i64, u: Weights) -> i64
+    requires { ⌜ Small u × (natAbs first ≤ 2 ^ 21) × (natAbs across ≤ 1536) × FourIn (now plane) first across ⌝ }
+    ensures { λ r. ⌜ (r ≡ rowSum u (λ i. sampleAt (now (plane .entry)) (natural (first +ℤ pos i *ℤ across)))) × (natAbs r ≤ 2 ^ 37) ⌝ }
 {
-    let a = indices::sample_by_steps(plane, size, steps, column, row);
-    let b = indices::sample_by_steps(plane, size, steps, column + 1, row);
-    let c = indices::sample_by_steps(plane, size, steps, column + 2, row);
-    let d = indices::sample_by_steps(plane, size, steps, column + 3, row);
+    let a = frame::sample(plane, first as usize);
+    let b = frame::sample(plane, (first + across) as usize);
+    let c = frame::sample(plane, (first + 2 * across) as usize);
+    let d = frame::sample(plane, (first + 3 * across) as usize);
     weigh_samples(u, a, b, c, d)
 }
 
-// Four rows of four taps of a face that is not turned.
+// Four rows of four taps of a face that is not turned: a step down leads to the next line of the frame.
 fn sum_by_parts(
     plane: &[u8],
     size: u64,
@@ -174,14 +167,16 @@ fn sum_by_parts(
     requires { ⌜ Small u × Small w × SteppedFace size (now plane) steps × (column + 3 < size) × (row + 3 < size) × (steps .across ≡ pos 1) ⌝ }
     ensures { λ r. ⌜ (r ≡ gridSum w u (λ j i. sampleBySteps (now (plane .entry)) steps (column + i) (row + j))) × (natAbs r ≤ 2 ^ 58) ⌝ }
 {
-    let a = row_by_part(plane, size, steps, column, row, u);
-    let b = row_by_part(plane, size, steps, column, row + 1, u);
-    let c = row_by_part(plane, size, steps, column, row + 2, u);
-    let d = row_by_part(plane, size, steps, column, row + 3, u);
+    let line = steps.down;
+    let first = indices::step_to(steps, 0, row) as i64;
+    let a = row_by_part(plane, size, first, column, u);
+    let b = row_by_part(plane, size, first + line, column, u);
+    let c = row_by_part(plane, size, first + 2 * line, column, u);
+    let d = row_by_part(plane, size, first + 3 * line, column, u);
     weigh(w, a, b, c, d)
 }
 
-// Four rows of four taps of any face.
+// Four rows of four taps of any face. The index of each tap is found from that of the first: only that takes a multiplication.
 fn sum_by_steps(
     plane: &[u8],
     size: u64,
@@ -194,10 +189,13 @@ fn sum_by_steps(
     requires { ⌜ Small u × Small w × SteppedFace size (now plane) steps × (column + 3 < size) × (row + 3 < size) ⌝ }
     ensures { λ r. ⌜ (r ≡ gridSum w u (λ j i. sampleBySteps (now (plane .entry)) steps (column + i) (row + j))) × (natAbs r ≤ 2 ^ 58) ⌝ }
 {
-    let a = row_by_steps(plane, size, steps, column, row, u);
-    let b = row_by_steps(plane, size, steps, column, row + 1, u);
-    let c = row_by_steps(plane, size, steps, column, row + 2, u);
-    let d = row_by_steps(plane, size, steps, column, row + 3, u);
+    let across = steps.across;
+    let down = steps.down;
+    let first = indices::step_to(steps, column, row) as i64;
+    let a = row_from(plane, first, across, u);
+    let b = row_from(plane, first + down, across, u);
+    let c = row_from(plane, first + 2 * down, across, u);
+    let d = row_from(plane, first + 3 * down, across, u);
     weigh(w, a, b, c, d)
 }
 
@@ -214,8 +212,8 @@ fn sum_inside(
     requires { ⌜ Small u × Small w × SteppedFace size (now plane) steps × (column + 3 < size) × (row + 3 < size) ⌝ }
     ensures { λ r. ⌜ (r ≡ gridSum w u (λ j i. sampleBySteps (now (plane .entry)) steps (column + i) (row + j))) × (natAbs r ≤ 2 ^ 58) ⌝ }
 {
-    let across = steps.across;
-    if across == 1 {
+    let step = steps.across;
+    if step == 1 {
         sum_by_parts(plane, size, steps, column, row, u, w)
     } else {
         sum_by_steps(plane, size, steps, column, row, u, w)
@@ -236,46 +234,32 @@ fn clip(n: u64, z: i64) -> u64
     if m < n { m } else { n - 1 }
 }
 
-// The place that a tap reads.
-fn tap_place(size: u64, face: u64, column: i64, row: i64) -> Place
-    requires { ⌜ (1 ≤ size) × (face < 6) ⌝ }
-    ensures { λ r. ⌜ (r ≡ tapPlace size face column row) × IsPlace size r ⌝ }
+// The sample that a tap reads. It does not depend on the number of the face, for which 0 stands here and below.
+fn tap(plane: &[u8], size: u64, steps: FaceSteps, column: i64, row: i64) -> u64
+    requires { ⌜ SteppedFace size (now plane) steps × (1 ≤ size) ⌝ }
+    ensures { λ r. ⌜ (r ≡ onFace (now (plane .entry)) steps (tapPlace size 0 column row)) × (r < 65536) ⌝ }
 {
     let m = clip(size, column);
     let n = clip(size, row);
-    Place {
-        face: face,
-        column: m,
-        row: n,
-    }
-}
-
-// The sample that a tap reads.
-fn tap(plane: &[u8], size: u64, steps: &[i64; 18], face: u64, column: i64, row: i64) -> u64
-    requires { ⌜ SteppedPlane size (now plane) (now steps) × (face < 6) ⌝ }
-    ensures { λ r. ⌜ (r ≡ sampleBy (now (plane .entry)) (now (steps .entry)) (tapPlace size face column row)) × (r < 65536) ⌝ }
-{
-    indices::sample_by(plane, size, steps, tap_place(size, face, column, row))
+    indices::sample_by_steps(plane, size, steps, m, n)
 }
 
 // Four taps of a row, each by its place.
 fn row_by_places(
     plane: &[u8],
     size: u64,
-    steps: &[i64; 18],
-    face: u64,
+    steps: FaceSteps,
     column: i64,
     row: i64,
     u: Weights,
 ) -> i64
-    requires { ⌜ Small u × SteppedPlane size (now plane) (now steps) × (face < 6) × (natAbs column ≤ 65536) ⌝ }
-    ensures { λ r. ⌜ (r ≡ rowSum u (λ i. sampleBy (now (plane .entry)) (now (steps .entry)) (tapPlace size face (column +ℤ pos i) row)))
-        × (natAbs r ≤ 2 ^ 37) ⌝ }
+    requires { ⌜ Small u × SteppedFace size (now plane) steps × (1 ≤ size) × (natAbs column ≤ 65536) ⌝ }
+    ensures { λ r. ⌜ (r ≡ rowSum u (λ i. onFace (now (plane .entry)) steps (tapPlace size 0 (column +ℤ pos i) row))) × (natAbs r ≤ 2 ^ 37) ⌝ }
 {
-    let a = tap(plane, size, steps, face, column, row);
-    let b = tap(plane, size, steps, face, column + 1, row);
-    let c = tap(plane, size, steps, face, column + 2, row);
-    let d = tap(plane, size, steps, face, column + 3, row);
+    let a = tap(plane, size, steps, column, row);
+    let b = tap(plane, size, steps, column + 1, row);
+    let c = tap(plane, size, steps, column + 2, row);
+    let d = tap(plane, size, steps, column + 3, row);
     weigh_samples(u, a, b, c, d)
 }
 
@@ -283,21 +267,20 @@ fn row_by_places(
 fn sum_by_places(
     plane: &[u8],
     size: u64,
-    steps: &[i64; 18],
-    face: u64,
+    steps: FaceSteps,
     column: i64,
     row: i64,
     u: Weights,
     w: Weights,
 ) -> i64
-    requires { ⌜ Small u × Small w × SteppedPlane size (now plane) (now steps) × (face < 6) ⌝ }
+    requires { ⌜ Small u × Small w × SteppedFace size (now plane) steps × (1 ≤ size) ⌝ }
     requires { ⌜ (natAbs column ≤ 65536) × (natAbs row ≤ 65536) ⌝ }
-    ensures { λ r. ⌜ (r ≡ gridSum w u (tapped (sampleBy (now (plane .entry)) (now (steps .entry))) size face column row)) × (natAbs r ≤ 2 ^ 58) ⌝ }
+    ensures { λ r. ⌜ (r ≡ gridSum w u (tapped (onFace (now (plane .entry)) steps) size 0 column row)) × (natAbs r ≤ 2 ^ 58) ⌝ }
 {
-    let a = row_by_places(plane, size, steps, face, column, row, u);
-    let b = row_by_places(plane, size, steps, face, column, row + 1, u);
-    let c = row_by_places(plane, size, steps, face, column, row + 2, u);
-    let d = row_by_places(plane, size, steps, face, column, row + 3, u);
+    let a = row_by_places(plane, size, steps, column, row, u);
+    let b = row_by_places(plane, size, steps, column, row + 1, u);
+    let c = row_by_places(plane, size, steps, column, row + 2, u);
+    let d = row_by_places(plane, size, steps, column, row + 3, u);
     weigh(w, a, b, c, d)
 }
 
@@ -323,52 +306,38 @@ fn in_face(size: u64, first: i64) -> bool
 fn sum_from(
     plane: &[u8],
     size: u64,
-    steps: &[i64; 18],
-    face: u64,
+    steps: FaceSteps,
     column: i64,
     row: i64,
     u: Weights,
     w: Weights,
 ) -> i64
-    requires { ⌜ Small u × Small w × SteppedPlane size (now plane) (now steps) × (face < 6) ⌝ }
+    requires { ⌜ Small u × Small w × SteppedFace size (now plane) steps × (1 ≤ size) ⌝ }
     requires { ⌜ (natAbs column ≤ 65536) × (natAbs row ≤ 65536) ⌝ }
-    ensures { λ r. ⌜ (r ≡ gridSum w u (tapped (sampleBy (now (plane .entry)) (now (steps .entry))) size face column row)) × (natAbs r ≤ 2 ^ 58) ⌝ }
+    ensures { λ r. ⌜ (r ≡ gridSum w u (tapped (onFace (now (plane .entry)) steps) size 0 column row)) × (natAbs r ≤ 2 ^ 58) ⌝ }
 {
     if in_face(size, column) & in_face(size, row) {
-        sum_inside(
-            plane,
-            size,
-            indices::steps_at(steps, face),
-            column as u64,
-            row as u64,
-            u,
-            w,
-        )
+        sum_inside(plane, size, steps, column as u64, row as u64, u, w)
     } else {
-        sum_by_places(plane, size, steps, face, column, row, u, w)
+        sum_by_places(plane, size, steps, column, row, u, w)
     }
 }
 
 // The sum over sixteen taps.
-fn cubic_sum(plane: &[u8], size: u64, steps: &[i64; 18], weights: &[i64; 256], p: Located) -> i64
-    requires { ⌜ SteppedPlane size (now plane) (now steps) × OnFace size p × IsWeights (now weights) ⌝ }
-    ensures { λ r. ⌜ (r ≡ cubicSum size (sampleBy (now (plane .entry)) (now (steps .entry))) p) × (natAbs r ≤ 2 ^ 58) ⌝ }
+fn cubic_sum(
+    plane: &[u8],
+    size: u64,
+    steps: FaceSteps,
+    weights: &[i64; 256],
+    column: i64,
+    row: i64,
+) -> i64
+    requires { ⌜ SteppedFace size (now plane) steps × (1 ≤ size) × IsWeights (now weights) × InRange size column × InRange size row ⌝ }
+    ensures { λ r. ⌜ (r ≡ cubicSum size (onFace (now (plane .entry)) steps) (located 0 column row)) × (natAbs r ≤ 2 ^ 58) ⌝ }
 {
-    let face = p.face;
-    let column = p.column;
-    let row = p.row;
     let u = weights_at(weights, column);
     let w = weights_at(weights, row);
-    sum_from(
-        plane,
-        size,
-        steps,
-        face,
-        first_tap(column),
-        first_tap(row),
-        u,
-        w,
-    )
+    sum_from(plane, size, steps, first_tap(column), first_tap(row), u, w)
 }
 
 // The sum divided by 2^38 and rounded: 2^37 is half of the divisor.
@@ -379,19 +348,21 @@ fn rounded(sum: i64) -> i64
     (sum + 137438953472) >> 38
 }
 
-// The cubic value at a position.
+// The cubic value at a position of a face.
 fn cubic(
     plane: &[u8],
     size: u64,
-    steps: &[i64; 18],
+    steps: FaceSteps,
     weights: &[i64; 256],
     depth: u64,
-    p: Located,
+    column: i64,
+    row: i64,
 ) -> u64
-    requires { ⌜ SteppedPlane size (now plane) (now steps) × OnFace size p × IsWeights (now weights) × T (depthOK depth) ⌝ }
-    ensures { λ r. ⌜ (r ≡ sampleFrom Sampler.Cubic size depth (sampleBy (now (plane .entry)) (now (steps .entry))) p) × (r < 65536) ⌝ }
+    requires { ⌜ SteppedFace size (now plane) steps × (1 ≤ size) × IsWeights (now weights) × InRange size column × InRange size row ⌝ }
+    requires { ⌜ T (depthOK depth) ⌝ }
+    ensures { λ r. ⌜ (r ≡ cubicOn (now (plane .entry)) steps size depth column row) × (r < 65536) ⌝ }
 {
-    let sum = cubic_sum(plane, size, steps, weights, p);
+    let sum = cubic_sum(plane, size, steps, weights, column, row);
     let value = rounded(sum);
     clip(frame::sample_bound(depth), value)
 }
@@ -409,21 +380,107 @@ pub fn sampler_of(code: u64) -> Sampler
     }
 }
 
-// The value that a sampler gives at a position of a face.
-pub fn sample_from(
+// ---- along a stretch of positions
+
+// Stores the nearest samples at the positions from number `from` up to number `to`, each at index `at` plus its number.
+fn nearest_along(
+    plane: &[u8],
+    size: u64,
+    steps: FaceSteps,
+    columns: &[i64; 512],
+    rows: &[i64; 512],
+    from: u64,
+    to: u64,
+    at: u64,
+    target: &mut [u8],
+)
+    requires { ⌜ SteppedFace size (now plane) steps × (1 ≤ size) × OnFaces size from to (now columns) (now rows) ⌝ }
+    requires { ⌜ (from ≤ to) × (to ≤ 512) × (at ≤ 1572864) × (2 * (at + to) ≤ length (now target)) ⌝ }
+    ensures { λ _. ⌜ now (target .exit) ≡ placed (now (target .entry)) (at + from)
+        (λ j. nearestOn (now (plane .entry)) steps size (getD (now (columns .entry)) (from + j) (pos 0)) (getD (now (rows .entry)) (from + j) (pos 0)))
+        (to - from) ⌝ }
+{
+    let start = at + from;
+    let count = to - from;
+    let mut n: u64 = 0;
+    while n < count {
+        let j = (from + n) as usize;
+        let sample = nearest(plane, size, steps, columns[j], rows[j]);
+        frame::put_sample(target, (start + n) as usize, sample);
+        n += 1;
+    }
+}
+
+// The same with the cubic values.
+fn cubic_along(
+    plane: &[u8],
+    size: u64,
+    steps: FaceSteps,
+    weights: &[i64; 256],
+    depth: u64,
+    columns: &[i64; 512],
+    rows: &[i64; 512],
+    from: u64,
+    to: u64,
+    at: u64,
+    target: &mut [u8],
+)
+    requires { ⌜ SteppedFace size (now plane) steps × (1 ≤ size) × OnFaces size from to (now columns) (now rows) ⌝ }
+    requires { ⌜ IsWeights (now weights) × T (depthOK depth) ⌝ }
+    requires { ⌜ (from ≤ to) × (to ≤ 512) × (at ≤ 1572864) × (2 * (at + to) ≤ length (now target)) ⌝ }
+    ensures { λ _. ⌜ now (target .exit) ≡ placed (now (target .entry)) (at + from)
+        (λ j. cubicOn (now (plane .entry)) steps size depth (getD (now (columns .entry)) (from + j) (pos 0)) (getD (now (rows .entry)) (from + j) (pos 0)))
+        (to - from) ⌝ }
+{
+    let start = at + from;
+    let count = to - from;
+    let mut n: u64 = 0;
+    while n < count {
+        let j = (from + n) as usize;
+        let value = cubic(plane, size, steps, weights, depth, columns[j], rows[j]);
+        frame::put_sample(target, (start + n) as usize, value);
+        n += 1;
+    }
+}
+
+// Stores a sampler's values at the positions from number `from` up to number `to` of one face, each at index `at` plus its number.
+pub fn sample_along(
     sampler: Sampler,
     plane: &[u8],
     size: u64,
     steps: &[i64; 18],
     weights: &[i64; 256],
     depth: u64,
-    p: Located,
-) -> u64
-    requires { ⌜ SteppedPlane size (now plane) (now steps) × OnFace size p × IsWeights (now weights) × T (depthOK depth) ⌝ }
-    ensures { λ r. ⌜ (r ≡ sampleFrom sampler size depth (sampleBy (now (plane .entry)) (now (steps .entry))) p) × (r < 65536) ⌝ }
+    face: u64,
+    columns: &[i64; 512],
+    rows: &[i64; 512],
+    from: u64,
+    to: u64,
+    at: u64,
+    target: &mut [u8],
+)
+    requires { ⌜ SteppedPlane size (now plane) (now steps) × IsWeights (now weights) × T (depthOK depth) × (face < 6) ⌝ }
+    requires { ⌜ OnFaces size from to (now columns) (now rows) ⌝ }
+    requires { ⌜ (from ≤ to) × (to ≤ 512) × (at ≤ 1572864) × (2 * (at + to) ≤ length (now target)) ⌝ }
+    ensures { λ _. ⌜ now (target .exit) ≡ placed (now (target .entry)) (at + from)
+        (λ j. sampleFrom sampler size depth (sampleBy (now (plane .entry)) (now (steps .entry)))
+        (located face (getD (now (columns .entry)) (from + j) (pos 0)) (getD (now (rows .entry)) (from + j) (pos 0)))) (to - from) ⌝ }
 {
+    let on = indices::steps_at(steps, face);
     match sampler {
-        Sampler::Nearest => nearest(plane, size, steps, p),
-        Sampler::Cubic => cubic(plane, size, steps, weights, depth, p),
+        Sampler::Nearest => nearest_along(plane, size, on, columns, rows, from, to, at, target),
+        Sampler::Cubic => cubic_along(
+            plane,
+            size,
+            on,
+            weights,
+            depth,
+            columns,
+            rows,
+            from,
+            to,
+            at,
+            target,
+        ),
     }
 }

@@ -1,155 +1,104 @@
--- `table4` meets its contract: the tests that it makes are those of the six rows, in their order.
-use mathlib.Core.Path.{_≡_, _∙_, ap}
-use mathlib.Core.Bool.{Bool, true, false, cond}
-use mathlib.Core.Logic.{⊎-elim}
-use Prim.Native.Nat.{ℕ, _≤_}
-use native.Mathlib.Omega.{arith}
-use lib.IntN.{ℤ, pos, negℤ, natAbs}
-use lib.Signed.{ltZ}
+-- `table4` meets its contract: the six rows of the table, one by one.
+use mathlib.Core.Path.{_≡_, sym, _∙_, subst}
+use Prim.Native.Nat.{ℕ}
+use lib.IntN.{ℤ}
 use mir.Syntax.{w64}
-use mir.Val.{toZ, ofZ}
-use borrow.Author.Tests.{leb-true, leb-false}
+use mir.Val.{toZ}
 use borrow.Author.Needs.{needs}
-use Rattle.arithmetic.proofs.Held.{Held, opposite-ok, opposite, tests-positive}
-use Rattle.cubemap.specs.declared.Ray.{Ray}
+use Rattle.arithmetic.proofs.Held.{Held, opposite-ok, opposite}
 use Rattle.cubemap.proofs.Ranges.{ray-range}
 use Rattle.cubemap.proofs.HeldNumbers.{HeldRay, held-ray}
-use Rattle.cubemap.proofs.Faces.{Table4, table4-x, table4-y, table4-z}
+use Rattle.cubemap.proofs.Faces.{Row4, row4-is}
 use Rattle.geometry.proofs.table4.Statement.{statement}
 use Rattle.geometry.proofs.table4.Tie as tie
 
-magnitude-requires : tie.Need-magnitude-requires
-magnitude-requires c κs = search needs
+module _ (c : tie.Start) where
+  holds : HeldRay 536870911 (c .args .v)
+  holds = held-ray (c .args .v) (ray-range (c .args .v) (c .pre .1)) tt
 
-magnitude-requires-2 : tie.Need-magnitude-requires-2
-magnitude-requires-2 c κs = search needs
+  -- a row, of numbers that the machine holds
+  row : {n m o f : ℕ} {a b d : ℤ} → Held n a 536870911 → Held m b 536870911 → Held o d 536870911 → Row4 f (c .args .v) a b d → c .args .face ≡ f
+      → Row4 (c .args .face) (c .args .v) (toZ w64 n) (toZ w64 m) (toZ w64 o)
+  row {n} {m} {o} p q r (a, b, d) e =
+      subst (λ f. Row4 f (c .args .v) (toZ w64 n) (toZ w64 m) (toZ w64 o)) (sym e) (p .is ∙ a, q .is ∙ b, r .is ∙ d)
 
-magnitude-requires-3 : tie.Need-magnitude-requires-3
-magnitude-requires-3 c κs = search needs
+sub-t7 : tie.Need-sub-t7
+sub-t7 c = opposite-ok (holds (c .before .before .before .before) .z) tt
 
-module _ (c : tie.After-magnitude3) where
-  abbrev start : tie.Start
-  start = c .before .before .before .before .before .before
+sub-t8 : tie.Need-sub-t8
+sub-t8 c = opposite-ok (holds (c .before .before .before .before) .y) tt
 
-  abbrev v : Ray
-  v = start .args .v
+sub-t9 : tie.Need-sub-t9
+sub-t9 c = opposite-ok (holds (c .before .before .before .before) .y) tt
 
-  holds : HeldRay 536870911 v
-  holds = held-ray v (ray-range v (start .pre .0)) tt
+sub-t10 : tie.Need-sub-t10
+sub-t10 c = opposite-ok (holds (c .before .before .before .before) .x) tt
 
-  size-x : c .before .before .magnitude .result ≡ natAbs (v .x)
-  size-x = c .before .before .magnitude .ensures ∙ ap natAbs (holds .x .is)
+sub-t11 : tie.Need-sub-t11
+sub-t11 c = opposite-ok (holds (c .before .before .before .before) .z) tt
 
-  size-y : c .before .magnitude2 .result ≡ natAbs (v .y)
-  size-y = c .before .magnitude2 .ensures ∙ ap natAbs (holds .y .is)
+sub-t12 : tie.Need-sub-t12
+sub-t12 c = opposite-ok (holds (c .before .before .before .before) .y) tt
 
-  size-z : c .magnitude3 .result ≡ natAbs (v .z)
-  size-z = c .magnitude3 .ensures ∙ ap natAbs (holds .z .is)
+sub-t13 : tie.Need-sub-t13
+sub-t13 c = opposite-ok (holds (c .before .before .before .before) .y) tt
 
-  -- a row of the table, of numbers that the machine holds
-  gives : {n m f d e : ℕ} {a b : ℤ} → Held n a 536870911 → Held m b 536870911 → d ≡ e → Table4 v f a b e → Table4 v f (toZ w64 n) (toZ w64 m) d
-  gives p q s (face, a, b, size) = (face, p .is ∙ a, q .is ∙ b, s ∙ size)
+sub-t14 : tie.Need-sub-t14
+sub-t14 c = opposite-ok (holds (c .before .before .before .before) .x) tt
 
--- where the test of an axis fails
-not-x : (c : tie.Joined1) → let v : Ray = v (c .before) in natAbs (v .y) ≤ natAbs (v .x) → natAbs (v .z) ≤ natAbs (v .x) → ⊥
-not-x c p q =
-    let t : tie.After-magnitude3 = c .before in
-    ⊎-elim (λ w. omega (arith, size-x t, size-z t, leb-false)) (λ w. omega (arith, size-x t, size-y t)) (c .if1 .came)
+sub-t15 : tie.Need-sub-t15
+sub-t15 c = opposite-ok (holds (c .before .before .before .before) .y) tt
 
-not-y : (c : tie.Joined4) → let v : Ray = v (c .before .before) in natAbs (v .x) ≤ natAbs (v .y) → natAbs (v .z) ≤ natAbs (v .y) → ⊥
-not-y c p q =
-    let t : tie.After-magnitude3 = c .before .before in
-    ⊎-elim (λ w. omega (arith, size-y t, size-z t, leb-false)) (λ w. omega (arith, size-x t, size-y t)) (c .if4 .came)
-
--- the two rows of each axis, by the test of its sign
-row-x : (c : tie.Then2) (b : Bool) → let v : Ray = v (c .before .before) in ltZ (pos 0) (toZ w64 (ofZ w64 (v .x))) ≡ b
-    → Table4 v (cond b 0 1) (cond b (negℤ (v .z)) (v .z)) (negℤ (v .y)) (natAbs (v .x))
-row-x c b e =
-    let t : tie.After-magnitude3 = c .before .before in
-    table4-x (v t) (start t .pre .1) (omega (arith, size-x t, size-y t)) (omega (arith, size-x t, size-z t, leb-true)) b
-    (tests-positive (holds t .x .is) e)
-
-row-y : (c : tie.Then5) (b : Bool) → let v : Ray = v (c .before .before .before) in ltZ (pos 0) (toZ w64 (ofZ w64 (v .y))) ≡ b
-    → Table4 v (cond b 2 3) (v .x) (cond b (v .z) (negℤ (v .z))) (natAbs (v .y))
-row-y c b e =
-    let t : tie.After-magnitude3 = c .before .before .before in
-    table4-y (v t) (start t .pre .1) (not-x (c .before .before)) (omega (arith, size-x t, size-y t)) (omega (arith, size-y t, size-z t, leb-true)) b
-    (tests-positive (holds t .y .is) e)
-
-row-z : (c : tie.Joined4) (b : Bool) → let v : Ray = v (c .before .before) in ltZ (pos 0) (toZ w64 (ofZ w64 (v .z))) ≡ b
-    → Table4 v (cond b 4 5) (cond b (v .x) (negℤ (v .x))) (negℤ (v .y)) (natAbs (v .z))
-row-z c b e =
-    let t : tie.After-magnitude3 = c .before .before in
-    table4-z (v t) (start t .pre .1) (not-x (c .before)) (not-y c) b (tests-positive (holds t .z .is) e)
+sub-t16 : tie.Need-sub-t16
+sub-t16 c = opposite-ok (holds (c .before .before .before .before) .z) tt
 
 returns : tie.Need-returns
 returns c =
-    let t : tie.After-magnitude3 = c .before .before .before in
-    gives t (opposite (holds t .z) tt) (opposite (holds t .y) tt) (size-x t) (row-x (c .before) true (c .if3 .taken))
+    let t : tie.Start = c .before .before .before .before in
+    row t (opposite (holds t .z) tt) (opposite (holds t .y) tt) (holds t .x) (row4-is 0 (t .args .v)) (search needs)
 
 returns-2 : tie.Need-returns-2
 returns-2 c =
-    let t : tie.After-magnitude3 = c .before .before .before in
-    gives t (holds t .z) (opposite (holds t .y) tt) (size-x t) (row-x (c .before) false (c .if3 .left))
+    let t : tie.Start = c .before .before .before .before in
+    row t (holds t .z) (opposite (holds t .y) tt) (opposite (holds t .x) tt) (row4-is 1 (t .args .v)) (search needs)
 
 returns-3 : tie.Need-returns-3
 returns-3 c =
-    let t : tie.After-magnitude3 = c .before .before .before .before in
-    gives t (holds t .x) (holds t .z) (size-y t) (row-y (c .before) true (c .if6 .taken))
+    let t : tie.Start = c .before .before .before .before in
+    row t (holds t .x) (holds t .z) (holds t .y) (row4-is 2 (t .args .v)) (search needs)
 
 returns-4 : tie.Need-returns-4
 returns-4 c =
-    let t : tie.After-magnitude3 = c .before .before .before .before in
-    gives t (holds t .x) (opposite (holds t .z) tt) (size-y t) (row-y (c .before) false (c .if6 .left))
+    let t : tie.Start = c .before .before .before .before in
+    row t (holds t .x) (opposite (holds t .z) tt) (opposite (holds t .y) tt) (row4-is 3 (t .args .v)) (search needs)
 
 returns-5 : tie.Need-returns-5
 returns-5 c =
-    let t : tie.After-magnitude3 = c .before .before .before in
-    gives t (holds t .x) (opposite (holds t .y) tt) (size-z t) (row-z (c .before) true (c .if7 .taken))
+    let t : tie.Start = c .before .before .before .before in
+    row t (holds t .x) (opposite (holds t .y) tt) (holds t .z) (row4-is 4 (t .args .v)) (search needs)
 
 returns-6 : tie.Need-returns-6
 returns-6 c =
-    let t : tie.After-magnitude3 = c .before .before .before in
-    gives t (opposite (holds t .x) tt) (opposite (holds t .y) tt) (size-z t) (row-z (c .before) false (c .if7 .left))
-
-sub-t11 : tie.Need-sub-t11
-sub-t11 c = opposite-ok (holds (c .before .before .before) .z) tt
-
-sub-t12 : tie.Need-sub-t12
-sub-t12 c = opposite-ok (holds (c .before .before .before) .y) tt
-
-sub-t13 : tie.Need-sub-t13
-sub-t13 c = opposite-ok (holds (c .before .before .before) .y) tt
-
-sub-t17 : tie.Need-sub-t17
-sub-t17 c = opposite-ok (holds (c .before .before .before .before) .z) tt
-
-sub-t19 : tie.Need-sub-t19
-sub-t19 c = opposite-ok (holds (c .before .before .before) .y) tt
-
-sub-t20 : tie.Need-sub-t20
-sub-t20 c = opposite-ok (holds (c .before .before .before) .x) tt
-
-sub-t21 : tie.Need-sub-t21
-sub-t21 c = opposite-ok (holds (c .before .before .before) .y) tt
+    let t : tie.Start = c .before .before .before .before in
+    row t (opposite (holds t .x) tt) (opposite (holds t .y) tt) (opposite (holds t .z) tt) (row4-is 5 (t .args .v)) (search needs)
 
 pub table4-spec : {M : Type 1} → statement M
 table4-spec =
     tie.close
     (tie.spec
-    magnitude-requires
-    magnitude-requires-2
-    magnitude-requires-3
+    sub-t7
+    sub-t8
+    sub-t9
+    sub-t10
     sub-t11
     sub-t12
-    returns
     sub-t13
+    sub-t14
+    sub-t15
+    sub-t16
+    returns
     returns-2
     returns-3
-    sub-t17
     returns-4
-    sub-t19
     returns-5
-    sub-t20
-    sub-t21
     returns-6)

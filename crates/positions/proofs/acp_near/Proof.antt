@@ -1,13 +1,12 @@
--- `acp_near` meets its contract: what it leaves out of the first quotient is between 0 and 576·A.
-use mathlib.Core.Path.{_≡_, refl, sym, _∙_, ap, subst}
-use Prim.Native.Nat.{ℕ, _+_, _*_, _-_, _/_, _≤_}
+-- `acp_near` meets its contract: it is the middle with what is nearly the numerator of g added or, with all that this may fall short by, taken away.
+use mathlib.Core.Path.{_≡_, sym, _∙_, ap, subst}
+use Prim.Native.Nat.{ℕ, _*_, _≤_}
 use native.Mathlib.Omega.{arith}
 use lib.IntN.{natAbs}
 use mir.Facts.{toZ-ofZ}
 use borrow.Author.Needs.{needs}
 use Rattle.arithmetic.proofs.Held.{tests-negative}
-use Rattle.positions.specs.Near.{AcpNear}
-use Rattle.positions.proofs.Nearly.{NearFits, near-fits, near-above, near-below}
+use Rattle.positions.proofs.Nearly.{part-small, near-above, near-below}
 use Rattle.positions.proofs.acp_near.Statement.{statement}
 use Rattle.positions.proofs.acp_near.Tie as tie
 
@@ -15,115 +14,82 @@ module _ (c : tie.After-magnitude) where
   abbrev s : tie.Start
   s = c .before
 
-  k-is : c .magnitude .result ≡ natAbs (s .args .x)
+  abbrev k : ℕ
+  k = c .magnitude .result
+
+  k-is : k ≡ natAbs (s .args .x)
   k-is = c .magnitude .ensures ∙ ap natAbs (toZ-ofZ (s .fits .x))
 
-  k-most : c .magnitude .result ≤ s .args .d
-  k-most = subst (λ n. n ≤ s .args .d) (sym k-is) (s .pre .at-most-1)
+  k-most : k ≤ s .args .d
+  k-most = subst (λ n. n ≤ s .args .d) (sym k-is) (s .pre .0 .at-most-1)
 
-  fits : (w : ℕ) → w ≡ c .magnitude .result * c .magnitude .result / s .args .d → NearFits (s .args .size) (c .magnitude .result) (s .args .d) w
-  fits = near-fits (s .args .size) (c .magnitude .result) (s .args .d) (s .pre .size-most) k-most (s .pre .positive) (s .pre .bounded)
+module _ (c : tie.After-bent-near) where
+  abbrev m : tie.After-magnitude
+  m = c .before
 
--- what holds behind the quotient
-known : (c : tie.After-quotient) → let m = c .before .before in
-    NearFits (m .before .args .size) (m .magnitude .result) (m .before .args .d) (c .quotient .result)
-known c = fits (c .before .before) (c .quotient .result) (c .quotient .ensures)
+  abbrev A : ℕ
+  A = s m .args .size
 
-returns : tie.Need-returns
-returns c =
-    let m : tie.After-magnitude = c .before .before .before in
-    let a = s m .args in
-    let k = m .magnitude .result in
-    subst (λ w. AcpNear (a .size) (a .x) (a .d) (1600 * a .size * a .d + 25 * a .d + 576 * a .size * w + 576 * a .size - 2176 * a .size * k))
-    (sym (c .before .quotient .ensures))
-    (near-below (a .size) k (a .d) (s m .pre .size-most) (k-most m) (s m .pre .positive) (s m .pre .bounded) (a .x) (k-is m)
-    (tests-negative (toZ-ofZ (s m .fits .x)) (c .if1 .taken)))
-
-returns-2 : tie.Need-returns-2
-returns-2 c =
-    let m : tie.After-magnitude = c .before .before .before in
-    let a = s m .args in
-    let k = m .magnitude .result in
-    subst (λ w. AcpNear (a .size) (a .x) (a .d) (1600 * a .size * a .d + 25 * a .d + 2176 * a .size * k - 576 * a .size * w))
-    (sym (c .before .quotient .ensures))
-    (near-above (a .size) k (a .d) (s m .pre .size-most) (k-most m) (s m .pre .positive) (s m .pre .bounded) (a .x) (k-is m)
-    (tests-negative (toZ-ofZ (s m .fits .x)) (c .if1 .left)))
+  small : A * c .bent-near .result ≤ A * 27487790694400
+  small = part-small A (k m) (s m .args .d) (c .bent-near .result) (s m .pre .0 .size-most) (k-most m) (s m .pre .0 .positive) (c .bent-near .ensures)
 
 magnitude-requires : tie.Need-magnitude-requires
 magnitude-requires c κs = search needs
 
-as-double-requires : tie.Need-as-double-requires
-as-double-requires c κs = omega (arith, k-most c)
+bent-near-requires : tie.Need-bent-near-requires
+bent-near-requires c κs = (k-most c, s c .pre .0 .positive, s c .pre .0 .bounded, s c .pre .1)
 
-mul-whole : tie.Need-mul-whole
-mul-whole c = search needs
+mul-part : tie.Need-mul-part
+mul-part c = search needs
 
-mul-quotient : tie.Need-mul-quotient
-mul-quotient c = omega (arith, fits (c .before) _ refl)
-
-quotient-requires : tie.Need-quotient-requires
-quotient-requires c κs = search needs
-
-mul-whole-2 : tie.Need-mul-whole-2
-mul-whole-2 c = omega (arith, known c)
-
-mul-linear : tie.Need-mul-linear
-mul-linear c = search needs
-
-mul-linear-2 : tie.Need-mul-linear-2
-mul-linear-2 c = omega (arith, known c)
+mul-part-2 : tie.Need-mul-part-2
+mul-part-2 c = omega (arith, small c)
 
 mul-middle : tie.Need-mul-middle
 mul-middle c = search needs
 
-mul-middle-2 : tie.Need-mul-middle-2
-mul-middle-2 c = omega (arith, known c)
-
-mul-middle-3 : tie.Need-mul-middle-3
-mul-middle-3 c = search needs
-
 add-middle : tie.Need-add-middle
-add-middle c = omega (arith, known c)
+add-middle c = search needs
 
-add-result : tie.Need-add-result
-add-result c = omega (arith, known (c .before))
+sub-result : tie.Need-sub-result
+sub-result c = omega (arith, small (c .before))
 
 mul-result : tie.Need-mul-result
 mul-result c = search needs
 
-add-result-2 : tie.Need-add-result-2
-add-result-2 c = omega (arith, known (c .before))
-
-sub-result : tie.Need-sub-result
-sub-result c = omega (arith, known (c .before))
-
-add-result-3 : tie.Need-add-result-3
-add-result-3 c = omega (arith, known (c .before))
-
 sub-result-2 : tie.Need-sub-result-2
-sub-result-2 c = omega (arith, known (c .before))
+sub-result-2 c = omega (arith, small (c .before))
+
+add-result : tie.Need-add-result
+add-result c = omega (arith, small (c .before))
+
+returns : tie.Need-returns
+returns c =
+    let b : tie.After-bent-near = c .before in
+    let t : tie.Start = s (m b) in
+    near-below (A b) (k (m b)) (t .args .d) (b .bent-near .result) (t .pre .0 .size-most) (k-most (m b)) (t .pre .0 .positive) (b .bent-near .ensures)
+    (t .args .x) (k-is (m b)) (tests-negative (toZ-ofZ (t .fits .x)) (c .if1 .taken))
+
+returns-2 : tie.Need-returns-2
+returns-2 c =
+    let b : tie.After-bent-near = c .before in
+    let t : tie.Start = s (m b) in
+    near-above (A b) (k (m b)) (t .args .d) (b .bent-near .result) (t .pre .0 .size-most) (k-most (m b)) (t .pre .0 .positive) (b .bent-near .ensures)
+    (t .args .x) (k-is (m b)) (tests-negative (toZ-ofZ (t .fits .x)) (c .if1 .left))
 
 pub acp-near-spec : {M : Type 1} → statement M
 acp-near-spec =
     tie.close
     (tie.spec
+    mul-part
     magnitude-requires
-    as-double-requires
-    mul-whole
-    mul-quotient
-    quotient-requires
-    mul-whole-2
-    mul-linear
-    mul-linear-2
+    bent-near-requires
+    mul-part-2
     mul-middle
-    mul-middle-2
-    mul-middle-3
     add-middle
-    add-result
-    mul-result
-    add-result-2
     sub-result
-    add-result-3
+    mul-result
     sub-result-2
+    add-result
     returns
     returns-2)

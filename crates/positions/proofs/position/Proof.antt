@@ -24,6 +24,9 @@ cmp-position-requires c κs = search needs
 enum-told-2 : tie.Need-enum-told-2
 enum-told-2 c = search needs
 
+reciprocal-requires : tie.Need-reciprocal-requires
+reciprocal-requires c κs = search needs
+
 acp-position-requires : tie.Need-acp-position-requires
 acp-position-requires c κs = search needs
 
@@ -31,9 +34,9 @@ returns : tie.Need-returns
 returns c = position-is (c .before .before .before) (c .before .enum-told .given .1) (search needs) (c .cmp-position .ensures)
 
 returns-2 : tie.Need-returns-2
-returns-2 c = position-is (c .before .before .before) (c .before .enum-told2 .given .1) (search needs) (c .acp-position .ensures)
+returns-2 c = position-is (c .before .before .before .before) (c .before .before .enum-told2 .given .1) (search needs) (c .acp-position .ensures)
 
 pub position-spec : {M : Type 1} → statement M
 position-spec =
     tie.close
-    (tie.spec enum-told cmp-position-requires enum-told-2 acp-position-requires returns returns-2)
+    (tie.spec enum-told cmp-position-requires enum-told-2 reciprocal-requires acp-position-requires returns returns-2)

@@ -1,104 +1,133 @@
--- `convert_along` meets its contract: after each column the samples up to it are placed, and every other byte is as it was.
-use mathlib.Core.Path.{_≡_, sym, _∙_, ap, ap₂, subst}
+-- `convert_along` meets its contract: after each stretch the samples up to its end are placed, and every other byte is as it was.
+use mathlib.Core.Path.{_≡_, sym, _∙_, ap, subst}
 use mathlib.Core.List.{List}
-use Prim.Native.Nat.{ℕ, _+_, _*_, _-_, _<_}
+use Prim.Native.Nat.{ℕ, _+_, _-_, _≤_, _<_}
 use native.Mathlib.Omega.{arith}
 use lib.IntN.{ℤ, pos}
-use lib.ListN.{getD}
-use lib.Seq.{sets}
+use lib.ListN.{length, getD}
 use mir.Syntax.{w64}
 use mir.Val.{toZ, ofZ}
 use borrow.Author.Needs.{needs}
 use Rattle.arithmetic.proofs.Held.{Held, held, read-small}
-use Rattle.cubemap.specs.declared.Ray.{Ray}
-use Rattle.cubemap.specs.Interface.{littleEndian}
+use Rattle.cubemap.specs.RayToPlace.{faceOf}
+use Rattle.cubemap.proofs.Faces.{chosen}
 use Rattle.cubemap.proofs.RotatedRays.{RotatedRay}
 use Rattle.cubemap.proofs.Rotations.{along}
-use Rattle.resampling.specs.Plane.{valueOn, placed, Runs}
-use Rattle.resampling.proofs.Placing.{Placed, kept, none-placed, placed-next}
+use Rattle.frame.specs.Placing.{placed}
+use Rattle.frame.proofs.Placing.{Placed, kept, none-placed, placed-run}
+use Rattle.resampling.specs.Plane.{valueOn}
 use Rattle.resampling.proofs.convert_along.Statement.{statement}
 use Rattle.resampling.proofs.convert_along.Tie as tie
 
 abbrev Inv-loop : tie.InvT-loop
-Inv-loop c source source-steps weights coordinates start ray-step from target₀ size column₀ target column =
-    Placed from (λ j. valueOn c source source-steps (along start (getD coordinates j (pos 0)) ray-step)) target₀ target size column
+Inv-loop c source source-steps weights coordinates start ray-step at columns₀ rows₀ target₀ size from₀ columns rows target from =
+    Placed at (λ j. valueOn c source source-steps (along start (getD coordinates j (pos 0)) ray-step)) target₀ target size from
+    × (length columns ≡ 512) × (length rows ≡ 512)
 
 abbrev μ-loop : tie.MeasureT-loop
-μ-loop c source source-steps weights coordinates start ray-step from target₀ size column₀ target column = size - column
+μ-loop c source source-steps weights coordinates start ray-step at columns₀ rows₀ target₀ size from₀ columns rows target from = size - from
 
--- the rays of a run at the coordinate of a column, as it is read
-module _ {A : ℕ} {coordinates : List ℤ} {start step : Ray} (runs : Runs A coordinates start step) (m : ℕ) (h : m < A) where
-  coordinate : Held (ofZ w64 (getD coordinates m (pos 0))) (getD coordinates m (pos 0)) 65536
-  coordinate = held (getD coordinates m (pos 0)) (runs .small m h) tt
+module _ (l : tie.At-loop Inv-loop μ-loop) where
+  abbrev start : tie.Start Inv-loop μ-loop
+  start = l .before .before .before .before
 
-  ray-is : {r : Ray} → r ≡ along start (toZ w64 (ofZ w64 (getD coordinates m (pos 0)))) step → r ≡ along start (getD coordinates m (pos 0)) step
-  ray-is e = e ∙ ap (λ u. along start u step) (coordinate .is)
+  abbrev size : ℕ
+  size = start .args .c .target .size
 
-  ray-ok : {r : Ray} → r ≡ along start (toZ w64 (ofZ w64 (getD coordinates m (pos 0)))) step → RotatedRay r
-  ray-ok e = subst RotatedRay (sym (ray-is e)) (runs .leads m h)
+  abbrev from : ℕ
+  from = l .loop .from
 
-returns : tie.Need-returns Inv-loop μ-loop
-returns c =
-    let l = c .before in
-    let a = l .before .before .before .before .args in
-    l .loop .inv .holds
-    ∙ ap (placed (a .target .now) (a .from)
-    (λ j. valueOn (a .c) (a .source .now) (a .source-steps .now) (along (a .start) (getD (a .coordinates .now) j (pos 0)) (a .ray-step))))
-    (omega (arith, l .loop .inv .bounded))
+  -- the coordinate of the column that a stretch begins with, and the value of a column
+  abbrev coordinate : ℤ
+  coordinate = getD (start .args .coordinates .now) from (pos 0)
+
+  abbrev value : ℕ → ℕ
+  value j = valueOn (start .args .c) (start .args .source .now) (start .args .source-steps .now)
+      (along (start .args .start) (getD (start .args .coordinates .now) j (pos 0)) (start .args .ray-step))
+
+  held-coordinate : from < size → Held (ofZ w64 coordinate) coordinate 65536
+  held-coordinate h = held coordinate (start .pre .0 .1 .small from h) tt
+
+  same : length (l .loop .target) ≡ length (start .args .target .now)
+  same = kept (l .loop .inv .0) (start .pre .1 .0 .2)
+
+  -- one more stretch
+  next : {after : List ℕ} (to : ℕ) → from < to → to ≤ size → after ≡ placed (l .loop .target) (start .args .at + from) (λ j. value (from + j)) (to - from)
+      → Placed (start .args .at) value (start .args .target .now) after size to
+  next to h k e = record {
+    bounded = k;
+    holds = e
+        ∙ ap (λ bytes. placed bytes (start .args .at + from) (λ j. value (from + j)) (to - from)) (l .loop .inv .0 .holds)
+        ∙ placed-run (start .args .target .now) (start .args .at) value from (to - from) (omega (arith, start .pre .1 .0 .2))
+        ∙ ap (placed (start .args .target .now) (start .args .at) value) (joined h);
+  }
+    where
+      joined : from < to → from + (to - from) ≡ to
+      joined h = omega arith
+
+loop-holds : tie.Need-loop-holds Inv-loop μ-loop
+loop-holds c = let p = c .before .before .before .pre .1 .1 in (none-placed _ _ _ _, p .0, p .1)
+
+mul-face-along : tie.Need-mul-face-along Inv-loop μ-loop
+mul-face-along c = let h = start (c .before) .pre .1 .0 .0 in omega arith
+
+element-copy-out-face-along : tie.Need-element-copy-out-face-along Inv-loop μ-loop
+element-copy-out-face-along c = let h = start (c .before) .pre .1 .0 .0 in omega arith
+
+face-along-requires : tie.Need-face-along-requires Inv-loop μ-loop
+face-along-requires c κs =
+    let l : tie.At-loop Inv-loop μ-loop = c .before .before in
+    let runs = start l .pre .0 .1 in
+    let h = held-coordinate l (omega arith) in (
+      runs .start-ok,
+      runs .step-ok,
+      read-small h,
+      subst (λ u. RotatedRay (along (start l .args .start) u (start l .args .ray-step))) (sym (h .is)) (runs .leads (from l) (omega arith)),
+    )
+
+-- the face that the stretch begins on
+module _ (c : tie.After-face-along Inv-loop μ-loop) where
+  abbrev l : tie.At-loop Inv-loop μ-loop
+  l = c .before .before .before
+
+  face-is : c .face-along .result ≡ faceOf (along (start l .args .start) (coordinate l) (start l .args .ray-step))
+  face-is = c .face-along .ensures
+      ∙ ap (λ u. faceOf (along (start l .args .start) u (start l .args .ray-step))) (held-coordinate l (omega arith) .is)
+
+  face-below : c .face-along .result < 6
+  face-below = subst (λ f. f < 6) (sym face-is) (chosen _ (start l .pre .0 .1 .leads (from l) (omega arith) .nonzero) .face-ok)
+
+stretch-end-requires : tie.Need-stretch-end-requires Inv-loop μ-loop
+stretch-end-requires c κs = ((start (l c) .pre .0 .1, start (l c) .pre .1 .0 .0, omega arith), face-is c)
+
+convert-stretch-requires : tie.Need-convert-stretch-requires Inv-loop μ-loop
+convert-stretch-requires c κs =
+    let e : tie.After-stretch-end Inv-loop μ-loop = c .before .before .before in
+    let f : tie.After-face-along Inv-loop μ-loop = e .before in
+    let p = start (l f) .pre in
+    let i = l f .loop .inv in
+    let (above, below, one) = e .stretch-end .ensures in
+    (p .0, ((p .1 .0 .0, face-below f, omega arith, below, one), (p .1 .0 .1, omega (arith, same (l f), p .1 .0 .2), i .1, i .2)))
+
+loop-less : tie.Need-loop-less Inv-loop μ-loop
+loop-less c =
+    let e : tie.After-stretch-end Inv-loop μ-loop = c .before .before .before .before .before .before in
+    omega (arith, e .stretch-end .ensures .0, e .stretch-end .ensures .1)
 
 loop-again : tie.Need-loop-again Inv-loop μ-loop
 loop-again c =
-    let v = c .before .before .before .before in
-    let l = v .before .before .before .before in
-    let s = l .before .before .before .before in
-    record {
-      bounded = omega arith;
-      holds = c .before .before .put-sample .ensures
-          ∙ ap₂ (λ bytes x. sets bytes (2 * (s .args .from + l .loop .column)) (littleEndian 2 x)) (l .loop .inv .holds)
-          (v .value-on .ensures .0 ∙ ap (valueOn (s .args .c) (s .args .source .now) (s .args .source-steps .now))
-          (ray-is (s .pre .0 .1) (l .loop .column) (omega arith) (v .before .ray-along .ensures)))
-          ∙ placed-next (s .args .target .now) (s .args .from) _ (l .loop .column) (omega arith);
-    }
-
-loop-holds : tie.Need-loop-holds Inv-loop μ-loop
-loop-holds c = none-placed _ _ _ _
-
-mul-ray-along : tie.Need-mul-ray-along Inv-loop μ-loop
-mul-ray-along c = search needs
-
-element-copy-out-ray-along : tie.Need-element-copy-out-ray-along Inv-loop μ-loop
-element-copy-out-ray-along c = omega arith
-
-ray-along-requires : tie.Need-ray-along-requires Inv-loop μ-loop
-ray-along-requires c κs =
-    let l = c .before .before in
-    let r = l .before .before .before .before .pre .0 .1 in
-    (r .start-ok, r .step-ok, read-small (coordinate r (l .loop .column) (omega arith)))
-
-value-on-requires : tie.Need-value-on-requires Inv-loop μ-loop
-value-on-requires c κs =
-    let l = c .before .before .before in
-    let s = l .before .before .before .before in
-    let r = ray-ok (s .pre .0 .1) (l .loop .column) (omega arith) (c .ray-along .ensures) in
-    (s .pre .0 .0, r .in-range, r .nonzero)
-
-add-put-sample : tie.Need-add-put-sample Inv-loop μ-loop
-add-put-sample c = omega arith
-
-put-sample-requires : tie.Need-put-sample-requires Inv-loop μ-loop
-put-sample-requires c κs =
-    let l = c .before .before .before .before .before in
-    let s = l .before .before .before .before in
-    omega (arith, kept (l .loop .inv) (s .pre .1 .2))
-
-add-column : tie.Need-add-column Inv-loop μ-loop
-add-column c = search needs
-
-loop-less : tie.Need-loop-less Inv-loop μ-loop
-loop-less c = search needs
+    let d : tie.After-convert-stretch Inv-loop μ-loop = c .before .before in
+    let e : tie.After-stretch-end Inv-loop μ-loop = d .before .before .before .before in
+    let (done, columns, rows) = d .convert-stretch .ensures in
+    (next (l (e .before)) (e .stretch-end .result) (e .stretch-end .ensures .0) (e .stretch-end .ensures .1) done, columns, rows)
 
 same-length : tie.Need-same-length Inv-loop μ-loop
-same-length c = kept (c .before .loop .inv) (c .before .before .before .before .before .pre .1 .2)
+same-length c = same (c .before)
+
+returns : tie.Need-returns Inv-loop μ-loop
+returns c =
+    let i = c .before .loop .inv in
+    (i .0 .holds ∙ ap (placed (start (c .before) .args .target .now) (start (c .before) .args .at) (value (c .before))) (omega (arith, i .0 .bounded)), i .1, i .2)
 
 pub convert-along-spec : {M : Type 1} → statement M
 convert-along-spec =
@@ -107,13 +136,11 @@ convert-along-spec =
     Inv-loop
     μ-loop
     loop-holds
-    mul-ray-along
-    element-copy-out-ray-along
-    ray-along-requires
-    value-on-requires
-    add-put-sample
-    put-sample-requires
-    add-column
+    mul-face-along
+    element-copy-out-face-along
+    face-along-requires
+    stretch-end-requires
+    convert-stretch-requires
     loop-less
     loop-again
     same-length

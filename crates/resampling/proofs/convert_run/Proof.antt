@@ -17,7 +17,7 @@ use Rattle.cubemap.specs.Rotations.{rotated}
 use Rattle.cubemap.proofs.Rotations.{along}
 use Rattle.indices.proofs.Stepping.{plane-small}
 use Rattle.resampling.specs.Plane.{runStart, runStep, Runs, valueOn}
-use Rattle.resampling.proofs.Placing.{placed-cong}
+use Rattle.frame.proofs.Placing.{placed-cong}
 use Rattle.resampling.proofs.RunRays as rays
 use Rattle.resampling.proofs.convert_run.Statement.{statement}
 use Rattle.resampling.proofs.convert_run.Tie as tie
@@ -46,22 +46,22 @@ module _ (s : tie.Start) where
   coordinate = getD (s .args .coordinates .now) row (pos 0)
 
   slot-below : slot < 6
-  slot-below = rays.slot-below (s .args .c) (s .args .coordinates .now) L (s .pre .0 .1) run (s .pre .1 .0)
+  slot-below = rays.slot-below (s .args .c) (s .args .coordinates .now) L (s .pre .0 .1) run (s .pre .1 .0 .0)
 
   row-below : row < A
   row-below = mod-lt (run / 3) (s .pre .0 .1 .size-least)
 
   held-v : Held (ofZ w64 coordinate) coordinate 65536
-  held-v = held coordinate (rays.coordinate-small (s .args .c) (s .args .coordinates .now) L (s .pre .0 .1) run (s .pre .1 .0) row row-below) tt
+  held-v = held coordinate (rays.coordinate-small (s .args .c) (s .args .coordinates .now) L (s .pre .0 .1) run (s .pre .1 .0 .0) row row-below) tt
 
   face-below : {f : ℕ} → f ≡ faceIn L slot → f < 6
-  face-below e = subst (λ f. f < 6) (sym e) (rays.face-below (s .args .c) (s .args .coordinates .now) L (s .pre .0 .1) run (s .pre .1 .0))
+  face-below e = subst (λ f. f < 6) (sym e) (rays.face-below (s .args .c) (s .args .coordinates .now) L (s .pre .0 .1) run (s .pre .1 .0 .0))
 
   turns-below : {k : ℕ} → k ≡ quarterTurnsIn L slot → k < 4
-  turns-below e = subst (λ k. k < 4) (sym e) (rays.turns-below (s .args .c) (s .args .coordinates .now) L (s .pre .0 .1) run (s .pre .1 .0))
+  turns-below e = subst (λ k. k < 4) (sym e) (rays.turns-below (s .args .c) (s .args .coordinates .now) L (s .pre .0 .1) run (s .pre .1 .0 .0))
 
   from-small : run * A ≤ 1572864
-  from-small = omega (arith, room A run (s .pre .1 .0), plane-small A (s .pre .0 .1 .size-most))
+  from-small = omega (arith, room A run (s .pre .1 .0 .0), plane-small A (s .pre .0 .1 .size-most))
 
 -- the rays that the run goes by
 module _ (d : tie.After-run-step) where
@@ -84,20 +84,23 @@ module _ (d : tie.After-run-step) where
   runs-are : Runs (A s) (s .args .coordinates .now) (d .before .run-start .result) (d .run-step .result)
   runs-are = subst (λ r. Runs (A s) (s .args .coordinates .now) r (d .run-step .result)) (sym start-is)
       (subst (Runs (A s) (s .args .coordinates .now) _) (sym step-is)
-      (rays.runs (s .args .c) (s .args .coordinates .now) (L s) (s .pre .0 .1) (run s) (s .pre .1 .0)))
+      (rays.runs (s .args .c) (s .args .coordinates .now) (L s) (s .pre .0 .1) (run s) (s .pre .1 .0 .0)))
 
   ray-is : (j : ℕ) → j < A s → along (d .before .run-start .result) (getD (s .args .coordinates .now) j (pos 0)) (d .run-step .result)
       ≡ rotated rotation (rayOf (s .args .c .target .format) (A s) (placeAt (A s) (L s) (run s * A s + j)))
   ray-is j p = ap₂ (λ a b. along a (getD (s .args .coordinates .now) j (pos 0)) b) start-is step-is
-      ∙ sym (rays.run-ray (s .args .c) (s .args .coordinates .now) (L s) (s .pre .0 .1) (run s) (s .pre .1 .0) j p)
+      ∙ sym (rays.run-ray (s .args .c) (s .args .coordinates .now) (L s) (s .pre .0 .1) (run s) (s .pre .1 .0 .0) j p)
 
 returns : tie.Need-returns
 returns c =
-    let d : tie.After-run-step = c .before .before .before .before in
+    let d : tie.After-run-step = c .before .before .before .before .before .before in
     let a = s d .args in
-    c .before .before .convert-along .ensures
-    ∙ placed-cong (a .target .now) (a .run * a .c .target .size) _ _ (a .c .target .size)
-    (λ j p. ap (valueOn (a .c) (a .source .now) (a .source-steps .now)) (ray-is d j p))
+    let (done, columns, rows) = c .before .before .convert-along .ensures in (
+      done ∙ placed-cong (a .target .now) (a .run * a .c .target .size) _ _ (a .c .target .size)
+          (λ j p. ap (valueOn (a .c) (a .source .now) (a .source-steps .now)) (ray-is d j p)),
+      columns,
+      rows,
+    )
 
 div-slot : tie.Need-div-slot
 div-slot c = search needs
@@ -147,9 +150,11 @@ mul-convert-along c = omega (arith, from-small (s c))
 
 convert-along-requires : tie.Need-convert-along-requires
 convert-along-requires c κs =
-    let d : tie.After-run-step = c .before in
-    let t : tie.Start = s d in
-    ((t .pre .0 .0, runs-are d), (t .pre .0 .1 .size-most, from-small t, omega (arith, t .pre .1 .1, room (A t) (run t) (t .pre .1 .0))))
+    let d : tie.After-run-step = c .before .before .before in
+    let t : tie.Start = s d in (
+      (t .pre .0 .0, runs-are d),
+      ((t .pre .0 .1 .size-most, from-small t, omega (arith, t .pre .1 .0 .1, room (A t) (run t) (t .pre .1 .0 .0))), t .pre .1 .1),
+    )
 
 same-length : tie.Need-same-length
 same-length c = search needs

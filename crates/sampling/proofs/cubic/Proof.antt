@@ -1,27 +1,31 @@
 -- `cubic` meets its contract: the sum is rounded, and then clipped to the depth.
 use mathlib.Core.Path.{sym, _∙_, ap, ap₂, subst}
-use Prim.Native.Nat.{_≤_}
+use Prim.Native.Nat.{ℕ, _≤_}
 use native.Mathlib.Nat.{one-le-pow}
 use native.Mathlib.Omega.{arith}
 use mir.Syntax.{w64}
 use mir.Facts.{toZ-ofZ}
 use borrow.Author.Needs.{needs}
 use Rattle.arithmetic.proofs.Held.{read-result}
-use Rattle.cubemap.specs.Samplers.{clip, rounded}
+use Rattle.cubemap.specs.declared.Place.{Place}
+use Rattle.cubemap.specs.RayToPlace.{located}
+use Rattle.cubemap.specs.Samplers.{clip, cubicSum, rounded}
 use Rattle.cubemap.proofs.Samplers.{cubic-value}
-use Rattle.indices.specs.Steps.{sampleBy}
+use Rattle.sampling.specs.Taps.{onFace}
 use Rattle.sampling.proofs.cubic.Statement.{statement}
 use Rattle.sampling.proofs.cubic.Tie as tie
 
 returns : tie.Need-returns
 returns c =
     let s : tie.Start = c .before .before .before .before .before in
+    let sample : Place → ℕ = onFace (s .args .plane .now) (s .args .steps) in
     let bound = c .before .sample-bound .ensures in
-    let value =
-    toZ-ofZ {w = w64} {z = c .before .before .rounded .result} (search needs) ∙ c .before .before .rounded .ensures
-    ∙ ap rounded (read-result tt (c .before .before .before .cubic-sum .ensures) .0) in (
+    let sum =
+    read-result tt (c .before .before .before .cubic-sum .ensures) .0
+    ∙ ap₂ (λ x y. cubicSum (s .args .size) sample (located 0 x y)) (toZ-ofZ (s .fits .column)) (toZ-ofZ (s .fits .row)) in
+    let value = toZ-ofZ {w = w64} {z = c .before .before .rounded .result} (search needs) ∙ c .before .before .rounded .ensures ∙ ap rounded sum in (
       c .clip .ensures .0 ∙ ap₂ clip (bound .0) value
-          ∙ cubic-value (s .args .size) (s .args .depth) (sampleBy (s .args .plane .now) (s .args .steps .now)) (s .args .p),
+          ∙ cubic-value (s .args .size) (s .args .depth) sample (located 0 (s .args .column) (s .args .row)),
       omega (arith, c .clip .ensures .1, bound .1),
     )
 

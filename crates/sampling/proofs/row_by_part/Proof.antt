@@ -1,88 +1,78 @@
--- `row_by_part` meets its contract: where a step across is 1 the row lies unbroken, so its part of the plane has all its samples.
-use mathlib.Core.Path.{_≡_, sym, _∙_, ap}
+-- `row_by_part` meets its contract: sample m of the part is the m-th of the plane from the row's first on.
+use mathlib.Core.Path.{_≡_, _∙_, ap}
 use mathlib.Core.List.{List}
-use Prim.Native.Nat.{ℕ, _+_, _*_, _-_, _≤_, _<_}
+use Prim.Native.Nat.{ℕ, _+_, _*_, _-_, _^_, _≤_, _<_}
 use native.Mathlib.Omega.{arith}
-use lib.ListN.{take, drop}
+use lib.IntN.{natAbs}
+use lib.ListN.{length, take, drop}
+use mir.Syntax.{w64}
+use mir.Val.{toZ, ofZ}
 use borrow.Author.Needs.{needs}
 use Rattle.arithmetic.specs.Integers.{natural}
-use Rattle.arithmetic.proofs.Held.{read-result}
-use Rattle.cubemap.specs.Frames.{planeSamples, sampleAt}
+use Rattle.arithmetic.proofs.Sizes.{natAbs-natural}
+use Rattle.arithmetic.proofs.Held.{Held, held, read-small, read-result, cast-ok}
+use Rattle.cubemap.specs.Frames.{sampleAt}
 use Rattle.cubemap.proofs.Framed.{sample-part}
-use Rattle.indices.specs.Steps.{stepped}
-use Rattle.indices.proofs.Stepping.{not-negative, plane-small, steps-unbroken}
 use Rattle.sampling.proofs.Weighing.{row-cong}
 use Rattle.sampling.proofs.row_by_part.Statement.{statement}
 use Rattle.sampling.proofs.row_by_part.Tie as tie
 
-module _ (c : tie.After-step-to) where
-  abbrev start : tie.Start
-  start = c .before .before
+module _ (c : tie.Start) where
+  first : Held (ofZ w64 (c .args .first)) (c .args .first) (2 ^ 21)
+  first = held (c .args .first) (c .pre .0 .3) tt
 
-  abbrev A : ℕ
-  A = start .args .size
-
-  -- the index of the row's first sample, and of each from it on
+  -- the index of the row's first sample, as it is read
   abbrev from : ℕ
-  from = c .step-to .result
+  from = natAbs (toZ w64 (ofZ w64 (c .args .first)))
 
-  abbrev at : ℕ → ℕ
-  at m = natural (stepped (start .args .steps) m (start .args .row))
+  from-is : from ≡ natural (c .args .first)
+  from-is = ap natAbs (first .is) ∙ natAbs-natural (c .args .first) (c .pre .1 .0)
 
-  unbroken : (m : ℕ) → m < A → at m ≡ from + m
-  unbroken m h =
-      steps-unbroken (start .pre .1 .leads) (start .pre .4) m (start .args .row) h (start .pre .3) ∙ ap (λ i. i + m) (sym (c .step-to .ensures))
+  abbrev plane : List ℕ
+  plane = c .args .plane .now
 
-  -- the row ends within the plane
-  ends : from + A ≤ planeSamples A
-  ends = omega (arith, unbroken (A - 1) (omega arith), start .pre .1 .leads .below (A - 1) (start .args .row) (omega arith) (start .pre .3))
+  ends : 2 * (from + c .args .size) ≤ length plane
+  ends = omega (arith, from-is, c .pre .1 .1)
 
   -- a tap in the part
-  abbrev plane : List ℕ
-  plane = start .args .plane .now
-
   abbrev part : List ℕ
-  part = take (2 * from + 2 * A - 2 * from) (drop (2 * from) plane)
+  part = take (2 * from + 2 * c .args .size - 2 * from) (drop (2 * from) plane)
 
-  tap : (i : ℕ) → i < 4 → sampleAt part (start .args .column + i) ≡ sampleAt plane (at (start .args .column + i))
+  tap : (i : ℕ) → i < 4 → sampleAt part (c .args .column + i) ≡ sampleAt plane (natural (c .args .first) + (c .args .column + i))
   tap i h =
-      let m : ℕ = start .args .column + i in
-      let l : m < A = omega (arith, start .pre .2) in
-      sample-part plane from (2 * from + 2 * A - 2 * from) m (omega arith) ∙ ap (sampleAt plane) (sym (unbroken m l))
+      sample-part plane from (2 * from + 2 * c .args .size - 2 * from) (c .args .column + i) (omega (arith, c .pre .0 .2))
+      ∙ ap (λ k. sampleAt plane (k + (c .args .column + i))) from-is
 
 returns : tie.Need-returns
 returns c =
-    let t : tie.After-step-to = c .before .before in
-    let m : ℕ = start t .args .column in
+    let s : tie.Start = c .before .before .before in
+    let m : ℕ = s .args .column in
     let e = c .taps-of-row .ensures in
     read-result tt (
-      e .0 ∙ row-cong (start t .args .u) (λ i. sampleAt (part t) (m + i)) (λ i. sampleAt (plane t) (at t (m + i))) (tap t),
+      e .0 ∙ row-cong (s .args .u) (λ i. sampleAt (part s) (m + i)) (λ i. sampleAt (plane s) (natural (s .args .first) + (m + i))) (tap s),
       e .1,
     )
 
-step-to-requires : tie.Need-step-to-requires
-step-to-requires c κs =
-    let s = c .before .pre .1 .leads in
-    let p : 0 < c .before .args .size = omega arith in
-    ((s .base-small, s .across-small, s .down-small), (omega arith, omega arith, not-negative s 0 _ p (c .before .pre .3)))
+cast-from : tie.Need-cast-from
+cast-from c = cast-ok (first (c .before)) tt (c .before .pre .1 .0)
 
 mul-from : tie.Need-mul-from
-mul-from c = omega (arith, ends c, plane-small (A c) (start c .pre .1 .size-most))
+mul-from c = omega (arith, read-small (first (c .before)))
 
 mul-to : tie.Need-mul-to
-mul-to c = search needs
+mul-to c = omega arith
 
 add-to : tie.Need-add-to
-add-to c = omega (arith, ends c, plane-small (A c) (start c .pre .1 .size-most))
+add-to c = omega (arith, read-small (first (c .before)))
 
 sub-taps-of-row : tie.Need-sub-taps-of-row
-sub-taps-of-row c = search needs
+sub-taps-of-row c = omega arith
 
 part-taps-of-row-start : tie.Need-part-taps-of-row-start
-part-taps-of-row-start c = search needs
+part-taps-of-row-start c = omega arith
 
 part-taps-of-row-end : tie.Need-part-taps-of-row-end
-part-taps-of-row-end c = omega (arith, ends c, start c .pre .1 .whole)
+part-taps-of-row-end c = omega (arith, ends (c .before))
 
 taps-of-row-requires : tie.Need-taps-of-row-requires
 taps-of-row-requires c κs = search needs
@@ -91,7 +81,7 @@ pub row-by-part-spec : {M : Type 1} → statement M
 row-by-part-spec =
     tie.close
     (tie.spec
-    step-to-requires
+    cast-from
     mul-from
     mul-to
     add-to

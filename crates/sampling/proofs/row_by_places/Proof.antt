@@ -8,7 +8,7 @@ use mir.Facts.{toZ-ofZ}
 use borrow.Author.Needs.{needs}
 use Rattle.arithmetic.proofs.Held.{Held, held, held-literal, add-ok, add}
 use Rattle.cubemap.specs.Samplers.{tapPlace}
-use Rattle.indices.specs.Steps.{sampleBy}
+use Rattle.sampling.specs.Taps.{onFace}
 use Rattle.sampling.proofs.Weighing.{row-of, firstℤ}
 use Rattle.sampling.proofs.row_by_places.Statement.{statement}
 use Rattle.sampling.proofs.row_by_places.Tie as tie
@@ -20,7 +20,7 @@ returns : tie.Need-returns
 returns c =
     let start : tie.Start = c .before .before .before .before .before .before in
     let s : ℤ → ℤ → ℕ =
-    λ x y. sampleBy (start .args .plane .now) (start .args .steps .now) (tapPlace (start .args .size) (start .args .face) x y) in
+    λ x y. onFace (start .args .plane .now) (start .args .steps) (tapPlace (start .args .size) 0 x y) in
     let row = toZ-ofZ (start .fits .row) in
     row-of (start .args .u) (λ i. s (start .args .column +ℤ pos i) (start .args .row))
     (c .before .before .before .before .tap .ensures .0 ∙ ap₂ s (held-column start .is ∙ firstℤ (start .args .column)) row)

@@ -7,8 +7,7 @@ use mir.Val.{ofZ}
 use borrow.Author.Needs.{needs}
 use Rattle.arithmetic.proofs.Held.{Held, held, held-literal, add-ok, add}
 use Rattle.cubemap.specs.Samplers.{tapPlace}
-use Rattle.indices.specs.Steps.{sampleBy}
-use Rattle.sampling.specs.Taps.{rowSum}
+use Rattle.sampling.specs.Taps.{rowSum, onFace}
 use Rattle.sampling.proofs.Weighing.{firstℤ, sum-at₂, sum-of}
 use Rattle.sampling.proofs.sum_by_places.Statement.{statement}
 use Rattle.sampling.proofs.sum_by_places.Tie as tie
@@ -20,7 +19,7 @@ returns : tie.Need-returns
 returns c =
     let start : tie.Start = c .before .before .before .before .before .before in
     let s : ℤ → ℤ → ℕ → ℕ =
-    λ y x i. sampleBy (start .args .plane .now) (start .args .steps .now) (tapPlace (start .args .size) (start .args .face) (x +ℤ pos i) y) in
+    λ y x i. onFace (start .args .plane .now) (start .args .steps) (tapPlace (start .args .size) 0 (x +ℤ pos i) y) in
     let column = held (start .args .column) (start .pre .1 .0) tt .is in
     let g : ℤ → ℤ → ℤ = λ y x. rowSum (start .args .u) (s y x) in
     sum-of (start .args .w) (start .args .u) (λ j. s (start .args .row +ℤ pos j) (start .args .column))

@@ -9,9 +9,8 @@ use mir.Val.{toZ, ofZ}
 use borrow.Author.Needs.{needs}
 use Rattle.arithmetic.proofs.Tests.{and-left, and-right, passes}
 use Rattle.arithmetic.proofs.Held.{Held, held, read-result}
-use Rattle.indices.specs.Steps.{SteppedFace, sampleBySteps, sampleBy}
-use Rattle.indices.proofs.Stepping.{face-of}
-use Rattle.sampling.specs.Taps.{gridSum, tapped}
+use Rattle.indices.specs.Steps.{sampleBySteps}
+use Rattle.sampling.specs.Taps.{gridSum, tapped, onFace}
 use Rattle.sampling.proofs.Weighing.{IsSum, grid-cong, sum-at₂, Inside, inside, inside-cast, tap-inside}
 use Rattle.sampling.proofs.sum_from.Statement.{statement}
 use Rattle.sampling.proofs.sum_from.Tie as tie
@@ -32,7 +31,7 @@ module _ (c : tie.Start) where
 
   -- what a tap reads
   abbrev taps : ℤ → ℤ → ℕ → ℕ → ℕ
-  taps y x = tapped (sampleBy (c .args .plane .now) (c .args .steps .now)) (c .args .size) (c .args .face) x y
+  taps y x = tapped (onFace (c .args .plane .now) (c .args .steps)) (c .args .size) 0 x y
 
   -- the sum by what is read
   as-read : {z : ℤ} → IsSum (2 ^ 58) z (gridSum (c .args .w) (c .args .u) (taps y x))
@@ -55,20 +54,14 @@ module _ (c : tie.Then1) where
   down : Inside (start .args .size) (y start)
   down = inside (start .args .size) (y start) (subst T (c .before .in-face2 .ensures) (and-right column-in row-in (passes (c .if1 .taken))))
 
--- a tap inside the face
-tap : (c : tie.After-steps-at) → let t : tie.Then1 = c .before in let s : tie.Start = start t in
-    (i j : ℕ) → i < 4 → j < 4
-    → sampleBySteps (s .args .plane .now) (c .steps-at .result) (natAbs (x s) + i) (natAbs (y s) + j) ≡ taps s (y s) (x s) j i
-tap c i j p q =
-    let t : tie.Then1 = c .before in
-    let s : tie.Start = start t in
-    ap (λ k. sampleBySteps (s .args .plane .now) k (natAbs (x s) + i) (natAbs (y s) + j)) (c .steps-at .ensures)
-    ∙ ap (sampleBy (s .args .plane .now) (s .args .steps .now))
-    (sym (tap-inside (s .args .size) (s .args .face) (x s) (y s) i j p q (across t) (down t)))
+  -- a tap inside the face
+  tap : (i j : ℕ) → i < 4 → j < 4 → sampleBySteps (start .args .plane .now) (start .args .steps) (natAbs (x start) + i) (natAbs (y start) + j)
+      ≡ taps start (y start) (x start) j i
+  tap i j p q = ap (onFace (start .args .plane .now) (start .args .steps)) (sym (tap-inside (start .args .size) 0 (x start) (y start) i j p q across down))
 
 returns : tie.Need-returns
 returns c =
-    let s : tie.Start = start (c .before .before) in
+    let s : tie.Start = start (c .before) in
     let e = c .sum-inside .ensures in
     read-result tt (as-read s (e .0 ∙ grid-cong (s .args .w) (s .args .u) _ (taps s (y s) (x s)) (tap (c .before)), e .1))
 
@@ -82,25 +75,14 @@ in-face-requires c κs = search needs
 in-face-requires-2 : tie.Need-in-face-requires-2
 in-face-requires-2 c κs = search needs
 
-steps-at-requires : tie.Need-steps-at-requires
-steps-at-requires c κs = search needs
-
 cast-sum-inside : tie.Need-cast-sum-inside
-cast-sum-inside c = inside-cast _ _ (start (c .before) .pre .0 .2 .size-most) (across (c .before))
+cast-sum-inside c = inside-cast _ _ (start c .pre .0 .2 .size-most) (across c)
 
 cast-sum-inside-2 : tie.Need-cast-sum-inside-2
-cast-sum-inside-2 c = inside-cast _ _ (start (c .before) .pre .0 .2 .size-most) (down (c .before))
+cast-sum-inside-2 c = inside-cast _ _ (start c .pre .0 .2 .size-most) (down c)
 
 sum-inside-requires : tie.Need-sum-inside-requires
-sum-inside-requires c κs =
-    let s : tie.Start = start (c .before) in
-    let p = s .pre .0 in (
-      p .0,
-      p .1,
-      subst (SteppedFace (s .args .size) (s .args .plane .now)) (sym (c .steps-at .ensures)) (face-of (p .2) (s .args .face) (p .3)),
-      across (c .before) .fits,
-      down (c .before) .fits,
-    )
+sum-inside-requires c κs = let p = start c .pre .0 in (p .0, p .1, p .2, across c .fits, down c .fits)
 
 sum-by-places-requires : tie.Need-sum-by-places-requires
 sum-by-places-requires c κs = search needs
@@ -111,7 +93,6 @@ sum-from-spec =
     (tie.spec
     in-face-requires
     in-face-requires-2
-    steps-at-requires
     cast-sum-inside
     cast-sum-inside-2
     sum-inside-requires

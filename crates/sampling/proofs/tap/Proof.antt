@@ -1,26 +1,34 @@
--- `tap` meets its contract: the sample at the tap's place.
+-- `tap` meets its contract: column and row are clipped, and so they are inside the face.
 use mathlib.Core.Path.{_∙_, ap, ap₂}
-use mir.Facts.{toZ-ofZ}
 use borrow.Author.Needs.{needs}
-use Rattle.cubemap.specs.Samplers.{tapPlace}
-use Rattle.indices.specs.Steps.{sampleBy}
+use Rattle.arithmetic.proofs.Held.{read-back}
+use Rattle.cubemap.specs.Samplers.{clip}
+use Rattle.cubemap.proofs.Taps.{tapPlace-clips}
+use Rattle.indices.specs.Steps.{sampleBySteps}
+use Rattle.sampling.specs.Taps.{onFace}
 use Rattle.sampling.proofs.tap.Statement.{statement}
 use Rattle.sampling.proofs.tap.Tie as tie
 
 returns : tie.Need-returns
 returns c =
-    let start : tie.Start = c .before .before .before in (
-      c .sample-by .ensures .0 ∙ ap (sampleBy (start .args .plane .now) (start .args .steps .now))
-          (c .before .tap-place .ensures .0
-          ∙ ap₂ (tapPlace (start .args .size) (start .args .face)) (toZ-ofZ (start .fits .column)) (toZ-ofZ (start .fits .row))),
-      c .sample-by .ensures .1,
+    let t : tie.After-clip2 = c .before in
+    let s : tie.Start = t .before .before .before in (
+      c .sample-by-steps .ensures .0
+          ∙ ap₂ (sampleBySteps (s .args .plane .now) (s .args .steps))
+          (read-back (clip (s .args .size)) (s .args .column) (s .fits .column) (t .before .clip .ensures .0))
+          (read-back (clip (s .args .size)) (s .args .row) (s .fits .row) (t .clip2 .ensures .0))
+          ∙ ap (onFace (s .args .plane .now) (s .args .steps)) (tapPlace-clips (s .args .size) 0 (s .args .column) (s .args .row)),
+      c .sample-by-steps .ensures .1,
     )
 
-tap-place-requires : tie.Need-tap-place-requires
-tap-place-requires c κs = search needs
+clip-requires : tie.Need-clip-requires
+clip-requires c κs = search needs
 
-sample-by-requires : tie.Need-sample-by-requires
-sample-by-requires c κs = search needs
+clip-requires-2 : tie.Need-clip-requires-2
+clip-requires-2 c κs = search needs
+
+sample-by-steps-requires : tie.Need-sample-by-steps-requires
+sample-by-steps-requires c κs = search needs
 
 pub tap-spec : {M : Type 1} → statement M
-tap-spec = tie.close (tie.spec tap-place-requires sample-by-requires returns)
+tap-spec = tie.close (tie.spec clip-requires clip-requires-2 sample-by-steps-requires returns)

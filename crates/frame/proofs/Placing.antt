@@ -10,7 +10,7 @@ use lib.Seq.{sets, sets-eq, length-take-le, take-at, drop-at, drop-drop}
 use Rattle.cubemap.specs.Interface.{littleEndian}
 use Rattle.cubemap.specs.Frames.{framed}
 use Rattle.cubemap.proofs.Framed.{framed-none, framed-next, framed-length, framed-cong}
-use Rattle.resampling.specs.Plane.{placed}
+use Rattle.frame.specs.Placing.{placed}
 
 -- the bytes up to the n-th sample placed
 abbrev front : List ℕ → ℕ → (ℕ → ℕ) → ℕ → List ℕ
@@ -73,7 +73,7 @@ placed-next bytes from g n h =
     one-more : framed g n ++ littleEndian 2 (g n) ≡ framed g (n + 1)
     one-more = sym (framed-next g n) ∙ ap (framed g) (sym (add-one n))
 
--- ---- run after run from the first index on
+-- ---- run after run
 
 framed-add : (f : ℕ → ℕ) (m n : ℕ) → framed f (m + n) ≡ framed f m ++ framed (λ j. f (m + j)) n
 framed-add f m zero = ap (framed f) (add-zero m) ∙ sym (append-nil (framed f m)) ∙ ap (λ x. framed f m ++ x) (sym (framed-none (λ j. f (m + j))))
@@ -83,25 +83,32 @@ framed-add f m (suc n) =
     ∙ append-assoc (framed f m) (framed (λ j. f (m + j)) n) (littleEndian 2 (f (m + n)))
     ∙ ap (λ x. framed f m ++ x) (sym (framed-next (λ j. f (m + j)) n))
 
-pub placed-run : (bytes : List ℕ) (f : ℕ → ℕ) (m n : ℕ) → 2 * (m + n) ≤ length bytes
-    → placed (placed bytes 0 f m) m (λ j. f (m + j)) n ≡ placed bytes 0 f (m + n)
-placed-run bytes f m n h = ap₂ (λ x y. x ++ y)
-    (ap (λ x. x ++ framed (λ j. f (m + j)) n) (take-at (framed f m) (drop (2 * (0 + m)) bytes) (2 * m) (framed-length f m)) ∙ sym (framed-add f m n))
-    behind
+pub placed-run : (bytes : List ℕ) (from : ℕ) (f : ℕ → ℕ) (m n : ℕ) → 2 * (from + (m + n)) ≤ length bytes
+    → placed (placed bytes from f m) (from + m) (λ j. f (m + j)) n ≡ placed bytes from f (m + n)
+placed-run bytes from f m n h = ap₂ (λ x y. x ++ framed (λ j. f (m + j)) n ++ y) (take-at (front bytes from f m) rest (2 * (from + m)) whole) behind
+    ∙ ap (λ x. x ++ drop (2 * (from + (m + n))) bytes)
+    (append-assoc (take (2 * from) bytes) (framed f m) (framed (λ j. f (m + j)) n)
+    ∙ ap (λ x. take (2 * from) bytes ++ x) (sym (framed-add f m n)))
   where
-    behind : drop (2 * (m + n)) (placed bytes 0 f m) ≡ drop (2 * (0 + (m + n))) bytes
-    behind =
-        ap (λ k. drop k (placed bytes 0 f m)) (split m n)
-        ∙ sym (drop-drop (2 * n) (2 * m) (placed bytes 0 f m))
-        ∙ ap (drop (2 * n)) (drop-at (framed f m) (drop (2 * (0 + m)) bytes) (2 * m) (framed-length f m))
-        ∙ drop-drop (2 * n) (2 * (0 + m)) bytes
-        ∙ ap (λ k. drop k bytes) (joined m n)
-      where
-        split : (m n : ℕ) → 2 * (m + n) ≡ 2 * m + 2 * n
-        split m n = omega arith
+    rest : List ℕ
+    rest = drop (2 * (from + m)) bytes
 
-        joined : (m n : ℕ) → 2 * (0 + m) + 2 * n ≡ 2 * (0 + (m + n))
-        joined m n = omega arith
+    whole : length (front bytes from f m) ≡ 2 * (from + m)
+    whole = front-length bytes from f m (omega arith)
+
+    behind : drop (2 * (from + m + n)) (placed bytes from f m) ≡ drop (2 * (from + (m + n))) bytes
+    behind =
+        ap (λ k. drop k (placed bytes from f m)) (split from m n)
+        ∙ sym (drop-drop (2 * n) (2 * (from + m)) (placed bytes from f m))
+        ∙ ap (drop (2 * n)) (drop-at (front bytes from f m) rest (2 * (from + m)) whole)
+        ∙ drop-drop (2 * n) (2 * (from + m)) bytes
+        ∙ ap (λ k. drop k bytes) (joined from m n)
+      where
+        split : (k m n : ℕ) → 2 * (k + m + n) ≡ 2 * (k + m) + 2 * n
+        split k m n = omega arith
+
+        joined : (k m n : ℕ) → 2 * (k + m) + 2 * n ≡ 2 * (k + (m + n))
+        joined k m n = omega arith
 
 -- all of them
 pub placed-all : (bytes : List ℕ) (f : ℕ → ℕ) (n : ℕ) → length bytes ≡ 2 * n → placed bytes 0 f n ≡ framed f n

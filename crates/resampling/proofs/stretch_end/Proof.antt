@@ -1,0 +1,138 @@
+-- `stretch_end` meets its contract: the first ray of the stretch and the last meet the face, and so do those between.
+use mathlib.Core.Path.{_≡_, sym, _∙_, ap, subst}
+use Prim.Native.Nat.{ℕ, _+_, _-_, _≤_, _<_}
+use native.Mathlib.Omega.{arith}
+use native.Mathlib.Nat.{lt-of-not-le}
+use lib.IntN.{ℤ, pos}
+use lib.ListN.{getD}
+use mir.Syntax.{w64}
+use mir.Val.{toZ, ofZ}
+use borrow.Author.Needs.{needs}
+use Rattle.arithmetic.proofs.Held.{Held, held, read-small}
+use Rattle.cubemap.specs.RayToPlace.{faceOf}
+use Rattle.cubemap.proofs.Faces.{Chosen, chosen, chosen-only}
+use Rattle.cubemap.proofs.Regions.{chosen-between}
+use Rattle.cubemap.proofs.Rotations.{along}
+use Rattle.cubemap.proofs.RotatedRays.{RotatedRay}
+use Rattle.resampling.specs.Plane.{OneFace}
+use Rattle.resampling.proofs.stretch_end.Statement.{statement}
+use Rattle.resampling.proofs.stretch_end.Tie as tie
+
+abbrev Inv-loop : tie.InvT-loop
+Inv-loop size coordinates start ray-step from face to₀ to = (from < to) × (to ≤ size)
+
+abbrev μ-loop : tie.MeasureT-loop
+μ-loop size coordinates start ray-step from face to₀ to = to
+
+module _ (s : tie.Start Inv-loop μ-loop) where
+  -- the coordinate of a column, and what its ray meets
+  abbrev coordinate : ℕ → ℤ
+  coordinate m = getD (s .args .coordinates .now) m (pos 0)
+
+  abbrev meets : ℕ → ℕ
+  meets m = faceOf (along (s .args .start) (coordinate m) (s .args .ray-step))
+
+  held-at : (m : ℕ) → m < s .args .size → Held (ofZ w64 (coordinate m)) (coordinate m) 65536
+  held-at m h = held (coordinate m) (s .pre .0 .0 .small m h) tt
+
+  -- the rays from the first column to another one that meets its face
+  one-face : (m : ℕ) → s .args .from ≤ m → m < s .args .size → s .args .face ≡ meets m
+      → OneFace (s .args .coordinates .now) (s .args .start) (s .args .ray-step) (s .args .face) (s .args .from) (m + 1)
+  one-face m l h e = record {
+    meets = λ n p q. chosen-only (s .args .face) (along (s .args .start) (coordinate n) (s .args .ray-step))
+        (chosen-between (s .args .face) (s .args .start) (s .args .ray-step)
+        (s .pre .0 .0 .rising (s .args .from) n p (omega arith)) (s .pre .0 .0 .rising n m (omega arith) h)
+        (on (s .args .from) (omega arith) (s .pre .1)) (on m h e));
+  }
+    where
+      on : (n : ℕ) → n < s .args .size → s .args .face ≡ meets n → Chosen (s .args .face) (along (s .args .start) (coordinate n) (s .args .ray-step))
+      on n h e = subst (λ f. Chosen f (along (s .args .start) (coordinate n) (s .args .ray-step))) (sym e)
+          (chosen (along (s .args .start) (coordinate n) (s .args .ray-step)) (s .pre .0 .0 .leads n h .nonzero))
+
+loop-holds : tie.Need-loop-holds Inv-loop μ-loop
+loop-holds c = (c .pre .0 .2, omega arith)
+
+sub-face-along : tie.Need-sub-face-along Inv-loop μ-loop
+sub-face-along c = let h = c .loop .inv .0 in omega arith
+
+mul-face-along : tie.Need-mul-face-along Inv-loop μ-loop
+mul-face-along c = let h = c .loop .inv .1 in let m = c .before .pre .0 .1 in omega arith
+
+element-copy-out-face-along : tie.Need-element-copy-out-face-along Inv-loop μ-loop
+element-copy-out-face-along c = let h = c .loop .inv in let m = c .before .pre .0 .1 in omega (arith, h .0, h .1)
+
+-- the last column of what is looked at
+module _ (l : tie.At-loop Inv-loop μ-loop) where
+  abbrev last : ℕ
+  last = l .loop .to - 1
+
+  last-below : last < l .before .args .size
+  last-below = let h = l .loop .inv in omega (arith, h .0, h .1)
+
+face-along-requires : tie.Need-face-along-requires Inv-loop μ-loop
+face-along-requires c κs =
+    let l : tie.At-loop Inv-loop μ-loop = c .before in
+    let s : tie.Start Inv-loop μ-loop = l .before in
+    let h = held-at s (last l) (last-below l) in (
+      s .pre .0 .0 .start-ok,
+      s .pre .0 .0 .step-ok,
+      read-small h,
+      subst (λ u. RotatedRay (along (s .args .start) u (s .args .ray-step))) (sym (h .is))
+          (s .pre .0 .0 .leads (last l) (last-below l)),
+    )
+
+-- what the last ray meets
+module _ (c : tie.After-face-along Inv-loop μ-loop) where
+  abbrev l : tie.At-loop Inv-loop μ-loop
+  l = c .before .before
+
+  last-meets : c .face-along .result ≡ meets (l .before) (last l)
+  last-meets = c .face-along .ensures
+      ∙ ap (λ u. faceOf (along (l .before .args .start) u (l .before .args .ray-step))) (held-at (l .before) (last l) (last-below l) .is)
+
+-- where it is another face, it is not the first ray
+further : (c : tie.Then1 Inv-loop μ-loop) → let l = l (c .before) in l .before .args .from + 1 < l .loop .to
+further c =
+    let t : tie.At-loop Inv-loop μ-loop = l (c .before) in
+    lt-of-not-le (λ (h : t .loop .to ≤ t .before .args .from + 1).
+    let first : last t ≡ t .before .args .from = omega (arith, t .loop .inv .0) in
+    c .if1 .taken (last-meets (c .before) ∙ ap (meets (t .before)) first ∙ sym (t .before .pre .1)))
+
+sub-to : tie.Need-sub-to Inv-loop μ-loop
+sub-to c = let h = c .before .before .before .loop .inv .0 in omega arith
+
+add-to : tie.Need-add-to Inv-loop μ-loop
+add-to c = let h = c .before .before .before .loop .inv in let m = c .before .before .before .before .pre .0 .1 in omega (arith, h .0, h .1)
+
+loop-less : tie.Need-loop-less Inv-loop μ-loop
+loop-less c = omega (arith, further c)
+
+loop-again : tie.Need-loop-again Inv-loop μ-loop
+loop-again c = let h = c .before .before .before .loop .inv in (omega (arith, further c), omega (arith, further c, h .1))
+
+returns : tie.Need-returns Inv-loop μ-loop
+returns c =
+    let t : tie.At-loop Inv-loop μ-loop = l (c .before) in
+    let h = t .loop .inv in (
+      h .0,
+      h .1,
+      subst (OneFace (t .before .args .coordinates .now) (t .before .args .start) (t .before .args .ray-step) (t .before .args .face) (t .before .args .from))
+          (omega (arith, h .0)) (one-face (t .before) (last t) (omega (arith, h .0)) (last-below t) (sym (c .if1 .left) ∙ last-meets (c .before))),
+    )
+
+pub stretch-end-spec : {M : Type 1} → statement M
+stretch-end-spec =
+    tie.close
+    (tie.spec
+    Inv-loop
+    μ-loop
+    loop-holds
+    sub-face-along
+    mul-face-along
+    element-copy-out-face-along
+    face-along-requires
+    sub-to
+    add-to
+    loop-less
+    loop-again
+    returns)
