@@ -41,6 +41,12 @@ unfolding sumBelow
 sum-add zero f g = refl
 sum-add (suc n) f g = omega (arith, sum-add n f g)
 
+-- a factor of all terms
+pub sum-scale : (n c : ℕ) (f : ℕ → ℕ) → sumBelow (λ i. c * f i) n ≡ c * sumBelow f n
+unfolding sumBelow
+sum-scale zero c f = omega arith
+sum-scale (suc n) c f = omega (arith, sum-scale n c f)
+
 -- n terms of at most b
 pub sum-bounded : (n b : ℕ) (f : ℕ → ℕ) → ((i : ℕ) → i < n → f i ≤ b) → sumBelow f n ≤ n * b
 unfolding sumBelow
@@ -93,6 +99,30 @@ sum-flat (suc a) b h =
 
 pub both-cong : (f g : ℕ → ℕ) (i j : ℕ) → f i ≡ g i → f j ≡ g j → bothTerms f i j ≡ bothTerms g i j
 both-cong f g i j p q = ap₂ (λ x y. x + cond (ltb i j) y 0) p q
+
+-- a factor of both terms
+pub both-scale : (c : ℕ) (f : ℕ → ℕ) (i j : ℕ) → c * bothTerms f i j ≡ bothTerms (λ k. c * f k) i j
+both-scale c f i j = go (ltb i j)
+  where
+    go : (b : Bool) → c * (f i + cond b (f j) 0) ≡ c * f i + cond b (c * f j) 0
+    go true = omega arith
+    go false = omega arith
+
+-- a sum of such terms
+pub sum-both : (n : ℕ) (g : ℕ → ℕ → ℕ) (i j : ℕ) → sumBelow (λ m. bothTerms (λ k. g k m) i j) n ≡ bothTerms (λ k. sumBelow (g k) n) i j
+sum-both n g i j = go (ltb i j)
+  where
+    go : (b : Bool) → sumBelow (λ m. g i m + cond b (g j m) 0) n ≡ sumBelow (g i) n + cond b (sumBelow (g j) n) 0
+    go true = sum-add n (g i) (g j)
+    go false = sum-add n (g i) (λ m. 0) ∙ omega (arith, sum-same n 0)
+
+-- two terms of at most b
+pub both-bounded : (f : ℕ → ℕ) (i j b : ℕ) → f i ≤ b → f j ≤ b → bothTerms f i j ≤ b + b
+both-bounded f i j b h k = go (ltb i j)
+  where
+    go : (t : Bool) → f i + cond t (f j) 0 ≤ b + b
+    go true = omega arith
+    go false = omega arith
 
 module _ (f : ℕ → ℕ) where
   pub both-apart : (i j : ℕ) → i < j → f i + f j ≡ bothTerms f i j

@@ -1,16 +1,16 @@
 -- The rays that fall on a face, along a line: where two of them fall on it, so do those between, and their numbers change evenly.
-use mathlib.Core.Path.{_≡_, refl, sym, _∙_, ap, ap₂, subst}
+use mathlib.Core.Path.{_≡_, refl, sym, _∙_, ap, subst}
 use mathlib.Core.List.{[], _∷_}
 use Prim.Native.Nat.{ℕ, zero, suc, _+_, _*_, _-_, _≤_}
 use native.Mathlib.Omega.{arith}
-use lib.IntN.{ℤ, pos, negsuc, negℤ, natAbs, _+ℤ_, _-ℤ_, _*ℤ_}
+use lib.IntN.{ℤ, pos, negsuc, natAbs, _+ℤ_, _-ℤ_, _*ℤ_}
 use lib.Signed.{_≤ℤ_}
 use Rattle.arithmetic.proofs.Order.{le-elim}
-use Rattle.arithmetic.proofs.Ring.{var, con, _⊕_, _⊗_, _⊝_, ⊖, solve}
+use Rattle.arithmetic.proofs.Ring.{var, _⊕_, _⊗_, _⊝_, ⊖, solve}
 use Rattle.arithmetic.proofs.Sizes.{pos-inj, pos-sub}
 use Rattle.cubemap.specs.declared.Ray.{Ray}
-use Rattle.cubemap.specs.RayToPlace.{faceOf, chosenSize, across, down}
-use Rattle.cubemap.proofs.Faces.{toward, acrossGap, downGap, Chosen, chosen-only, chosen-toward}
+use Rattle.cubemap.specs.RayToPlace.{chosenSize, across, down}
+use Rattle.cubemap.proofs.Faces.{toward, Chosen, chosen-toward}
 use Rattle.cubemap.proofs.Rotations.{along}
 use Rattle.cubemap.proofs.RotatedRays.{neg-along}
 

@@ -20,6 +20,7 @@ use Rattle.cubemap.specs.declared.Located.{Located}
 use Rattle.cubemap.specs.declared.Place.{Place}
 use Rattle.cubemap.specs.declared.Sampler.{Sampler}
 use Rattle.cubemap.specs.Frames.{place, IsPlace}
+use Rattle.cubemap.specs.RayToPlace.{located}
 use Rattle.cubemap.specs.Samplers.{nearestColumn, nearestPlace, base, phase, tapAt, tapPlace, tapWeight, overTaps, cubicSum}
 use Rattle.cubemap.specs.Samplers.{rounded, clip, clippedTo, sampleFrom}
 use Rattle.cubemap.proofs.Rounding.{rounded-near}
@@ -256,6 +257,13 @@ value-cong Sampler.Nearest A D one two p h = h 0 0 (omega arith) (omega arith)
 value-cong Sampler.Cubic A D one two p h = ap (λ z. clippedTo D (rounded z))
     (weighted-cong (λ j. tapWeight j (phase (p .row))) (λ i. tapWeight i (phase (p .column)))
     (λ i j. one (tappedPlace Sampler.Cubic A p i j)) (λ i j. two (tappedPlace Sampler.Cubic A p i j)) h)
+
+-- the value on a face is found from the samples of that face alone, under whatever number
+pub value-on-face : (c : Sampler) (A D f : ℕ) (sample : Place → ℕ) (x y : ℤ)
+    → sampleFrom c A D (λ P. sample (place f (P .column) (P .row))) (located 0 x y) ≡ sampleFrom c A D sample (located f x y)
+unfolding sampleFrom nearestPlace cubicSum tapPlace
+value-on-face Sampler.Nearest A D f sample x y = refl
+value-on-face Sampler.Cubic A D f sample x y = refl
 
 -- equal samples give themselves
 pub value-flat : (c : Sampler) (A D x : ℕ) (sample : Place → ℕ) (p : Located) → x < 2 ^ D

@@ -89,18 +89,19 @@ pub fn sample_bound(depth: u64) -> u64
 }
 
 // Questions 10 and 11: is every sample within the depth? The bits that any sample has, taken together, are below 2^D exactly where each sample is.
+// They are kept as the 16 that a sample has: in wider numbers each sample would be widened first, which takes four times as long.
 pub fn samples_ok(shape: Shape, bytes: &[u8]) -> bool
     requires { ⌜ (shape .size ≤ 512) × T (depthOK (shape .depth)) × (length (now bytes) ≡ bytesIn shape) ⌝ }
     ensures { λ r. ⌜ r ≡ samplesOK shape (now (bytes .entry)) ⌝ }
 {
     let count = samples_in(shape);
-    let mut bits = 0;
+    let mut bits: u16 = 0;
     let mut i: u64 = 0;
     while i < count {
-        bits = bits | sample(bytes, i as usize);
+        bits = bits | sample(bytes, i as usize) as u16;
         i += 1;
     }
-    bits < sample_bound(shape.depth)
+    (bits as u64) < sample_bound(shape.depth)
 }
 
 // The lowest index with a sample beyond the depth; the number of samples where there is none.

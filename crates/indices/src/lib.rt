@@ -10,7 +10,7 @@ ghost use Rattle.cubemap.specs.Frames.{layoutBytes, spot, quarterTurns, indexIn
 ghost use Rattle.cubemap.specs.Frames as paper;
 ghost use Rattle.cubemap.specs.Checks.{layoutOK};
 ghost use Rattle.indices.specs.Steps as by;
-ghost use Rattle.indices.specs.Steps.{stepped, Steps, stepsIn, withSteps, LeadsTo, Aligned, SteppedFace, SteppedPlane, sampleBySteps, sampleBy};
+ghost use Rattle.indices.specs.Steps.{stepped, Steps, stepsIn, withSteps, LeadsTo, Aligned, SteppedFace, sampleBySteps};
 use cubemap::Layout;
 use cubemap::Place;
 
@@ -167,15 +167,6 @@ pub fn sample_by_steps(plane: &[u8], size: u64, steps: FaceSteps, column: u64, r
     ensures { λ r. ⌜ (r ≡ sampleBySteps (now (plane .entry)) steps column row) × (r < 65536) ⌝ }
 {
     frame::sample(plane, step_to(steps, column, row) as usize)
-}
-
-// The sample at a place, by a table of steps.
-pub fn sample_by(plane: &[u8], size: u64, table: &[i64; 18], place: Place) -> u64
-    requires { ⌜ SteppedPlane size (now plane) (now table) × IsPlace size place ⌝ }
-    ensures { λ r. ⌜ (r ≡ sampleBy (now (plane .entry)) (now (table .entry)) place) × (r < 65536) ⌝ }
-{
-    let face = place.face;
-    sample_by_steps(plane, size, steps_at(table, face), place.column, place.row)
 }
 
 // The index of a place.

@@ -7,7 +7,7 @@ ghost use lib.IntN.{pos, natAbs};
 ghost use lib.ListN.{length, getD};
 ghost use Rattle.cubemap.specs.Frames.{layoutBytes, planeSamples, framed};
 ghost use Rattle.cubemap.specs.RayToPlace.{faceOf};
-ghost use Rattle.cubemap.specs.Checks.{rotationInRange, rayInRange, rayNonzero};
+ghost use Rattle.cubemap.specs.Checks.{rotationInRange, rayInRange};
 ghost use Rattle.cubemap.proofs.Rotations.{along};
 ghost use Rattle.cubemap.proofs.RotatedRays.{RotatedRay};
 ghost use Rattle.frame.specs.Placing.{placed};

@@ -1,5 +1,5 @@
 -- A stretch of positions of one face: each as the machine reads it, and the samplers' values there as those of a table of steps.
-use mathlib.Core.Path.{_≡_, sym, ap, subst}
+use mathlib.Core.Path.{_≡_, sym, _∙_, ap, subst}
 use mathlib.Core.List.{List}
 use Prim.Native.Nat.{ℕ, _+_, _-_, _≤_, _<_}
 use native.Mathlib.Omega.{arith}
@@ -8,8 +8,9 @@ use lib.ListN.{getD}
 use Rattle.arithmetic.proofs.Held.{held}
 use Rattle.cubemap.specs.declared.Sampler.{Sampler}
 use Rattle.cubemap.specs.RayToPlace.{located}
-use Rattle.cubemap.specs.Samplers.{nearestPlace, tapPlace, cubicSum, sampleFrom}
+use Rattle.cubemap.specs.Samplers.{sampleFrom}
 use Rattle.cubemap.proofs.Positions.{InRange, in-range-small}
+use Rattle.cubemap.proofs.Samplers.{nearestPlace-columns, nearest-value, value-on-face}
 use Rattle.indices.specs.declared.FaceSteps.{FaceSteps}
 use Rattle.indices.specs.Steps.{stepsIn, sampleBy}
 use Rattle.sampling.specs.Taps.{nearestOn, cubicOn, OnFaces}
@@ -35,9 +36,10 @@ module _ {A from to : ℕ} {columns rows : List ℤ} (h : A ≤ 512) (s : OnFace
 -- by the steps of face f in a table
 module _ (A D f : ℕ) (plane : List ℕ) (table : List ℤ) (s : FaceSteps) (e : s ≡ stepsIn table f) (x y : ℤ) where
   pub nearest-on : nearestOn plane s A x y ≡ sampleFrom Sampler.Nearest A D (sampleBy plane table) (located f x y)
-  unfolding sampleFrom nearestPlace
-  nearest-on = ap (λ s. nearestOn plane s A x y) e
+  nearest-on =
+      ap (λ s. nearestOn plane s A x y) e
+      ∙ ap (sampleBy plane table) (nearestPlace-columns A (located f x y))
+      ∙ nearest-value A D (sampleBy plane table) (located f x y)
 
   pub cubic-on : cubicOn plane s A D x y ≡ sampleFrom Sampler.Cubic A D (sampleBy plane table) (located f x y)
-  unfolding sampleFrom cubicSum tapPlace
-  cubic-on = ap (λ s. cubicOn plane s A D x y) e
+  cubic-on = ap (λ s. cubicOn plane s A D x y) e ∙ value-on-face Sampler.Cubic A D f (sampleBy plane table) x y

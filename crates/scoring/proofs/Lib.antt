@@ -1,4 +1,6 @@
+mod Planes
 mod Passing
+mod Adding
+mod Unbroken
 mod Summing
 mod Weighing
-mod Planes

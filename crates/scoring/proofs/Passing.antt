@@ -66,3 +66,6 @@ module _ (A p q : ℕ) (t : WeightTest) (a : 1 ≤ A) (e : TestOf (4 * A ^ 6) (l
   pub most-is-weight : (W : ℕ) → IsMost t W → W ≡ weightOf A p q
   most-is-weight W m =
       sym (weightOf-only A p q W a (weight-between A p q W (to-paper W (m .holds)) (λ h. m .over (from-paper (W + 1) h))))
+
+  pub most-small : (W : ℕ) → IsMost t W → W ≤ 65536
+  most-small W m = passes-bound A p q W a (to-paper W (m .holds))

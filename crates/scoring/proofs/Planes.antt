@@ -10,9 +10,10 @@ use Rattle.cubemap.specs.Frames.{sampleAt}
 use Rattle.cubemap.specs.Checks.{sizeOK, depthOK, lengthOK, samplesOK}
 use Rattle.cubemap.proofs.Framed.{plane-bytes, samples-number, samples-below}
 use Rattle.cubemap.proofs.Passed.{size-range, depth-levels}
-use Rattle.indices.specs.Steps.{LeadsTo, Aligned}
-use Rattle.indices.proofs.Stepping.{aligned-plane, stepped-plane}
-use Rattle.scoring.specs.Rows.{ScoredPlane}
+use Rattle.indices.specs.declared.FaceSteps.{FaceSteps}
+use Rattle.indices.specs.Steps.{stepsIn, LeadsTo, Aligned, sampleBySteps}
+use Rattle.indices.proofs.Stepping.{aligned-plane, face-of, stepped-plane}
+use Rattle.scoring.specs.Rows.{ScoredFace, ScoredPlane}
 
 module _ (z : Shape) (L bytes : List ℕ) (steps : List ℤ) where
   pub scored-plane : T (sizeOK (z .size)) → T (depthOK (z .depth)) → T (lengthOK z (length bytes)) → T (samplesOK z bytes)
@@ -28,3 +29,11 @@ module _ (z : Shape) (L bytes : List ℕ) (steps : List ℤ) where
 
 pub scored-aligned : {A : ℕ} {plane : List ℕ} (guide table r : List ℤ) → Aligned guide table r → ScoredPlane A plane table → ScoredPlane A plane r
 scored-aligned guide table r e p = record { stepped = aligned-plane guide table r e (p .stepped); shallow = p .shallow }
+
+-- each face of such a plane
+pub scored-face : {A : ℕ} {plane : List ℕ} {table : List ℤ} → ScoredPlane A plane table → (f : ℕ) → f < 6 → ScoredFace A plane (stepsIn table f)
+scored-face p f h = record { stepped = face-of (p .stepped) f h; shallow = p .shallow }
+
+-- each sample of a face is within the greatest depth
+pub sample-small : {A : ℕ} {plane : List ℕ} {s : FaceSteps} → ScoredFace A plane s → (m n : ℕ) → m < A → n < A → sampleBySteps plane s m n < 4096
+sample-small f m n p q = f .shallow .within _ (f .stepped .leads .below m n p q)

@@ -9,7 +9,7 @@ use lib.IntN.{ℤ, natAbs}
 use lib.ListN.{length, getD, set, length-set}
 use lib.Seq.{getD-set-same, getD-set-other}
 use Rattle.arithmetic.specs.Sums.{sumBelow, bothTerms}
-use Rattle.arithmetic.proofs.Sums.{sum-cong, both-cong}
+use Rattle.arithmetic.proofs.Sums.{sum-cong, sum-scale, sum-swap, both-cong, both-scale, sum-both}
 use Rattle.cubemap.specs.declared.Format.{Format}
 use Rattle.cubemap.specs.PlaceToRay.{fromCentre}
 use Rattle.cubemap.specs.Score.{weightOf, weight, squaredDifference}
@@ -17,7 +17,7 @@ use Rattle.cubemap.proofs.FaceCoordinates.{fromCentre-left}
 use Rattle.cubemap.proofs.Weights.{IsWeight, weightOf-is, weight-only, weight-most, weight-symmetric, mirror-row}
 use Rattle.cubemap.proofs.Scores.{rowErrors}
 use Rattle.indices.specs.Steps.{stepsIn, sampleBySteps, sampleBy}
-use Rattle.scoring.specs.Rows.{Weighed, faceError, facesError}
+use Rattle.scoring.specs.Rows.{Weighed, faceError, facesError, faceSquares, facesSquares, Squares}
 
 -- an entry is at most 65,536
 pub entry-most : {A n m : ℕ} {weights : List ℕ} → Weighed A n weights → 1 ≤ A → m < A → getD weights m 0 ≤ 65536
@@ -113,3 +113,28 @@ module _ {A n : ℕ} {weights : List ℕ} (w : Weighed A n weights) (h : n < A) 
   both-errors first s second t =
       both-cong (facesError A first s second t weights) (rowErrors format A (sampleBy first s) (sampleBy second t)) n (A - suc n)
       (row-errors w format first s second t) (row-errors (weighed-mirror w h) format first s second t)
+
+-- ---- squares that are summed before they are weighed
+
+module _ (A : ℕ) (first : List ℕ) (s : List ℤ) (second : List ℕ) (t : List ℤ) (weights : List ℕ) where
+  abbrev square : ℕ → ℕ → ℕ → ℕ
+  square f n m = faceSquares first (stepsIn s f) second (stepsIn t f) n m
+
+  abbrev squares : ℕ → ℕ → ℕ
+  squares n m = facesSquares first s second t n m
+
+  -- of a row on the six faces
+  row-squares : (n : ℕ) → sumBelow (λ m. getD weights m 0 * squares n m) A ≡ facesError A first s second t weights n
+  row-squares n =
+      sum-cong A (λ m. getD weights m 0 * squares n m) (λ m. sumBelow (λ f. getD weights m 0 * square f n m) 6)
+      (λ m h. sym (sum-scale 6 (getD weights m 0) (λ f. square f n m)))
+      ∙ sum-swap A 6 (λ m f. getD weights m 0 * square f n m)
+
+  -- and of the opposite one
+  pub weighed-squares : (i j : ℕ) (sums : List ℕ) → Squares A (λ m. bothTerms (λ n. squares n m) i j) sums
+      → sumBelow (λ m. getD weights m 0 * getD sums m 0) A ≡ bothTerms (facesError A first s second t weights) i j
+  weighed-squares i j sums q =
+      sum-cong A (λ m. getD weights m 0 * getD sums m 0) (λ m. bothTerms (λ n. getD weights m 0 * squares n m) i j)
+      (λ m h. ap (λ x. getD weights m 0 * x) (q .entry m h) ∙ both-scale (getD weights m 0) (λ n. squares n m) i j)
+      ∙ sum-both A (λ n m. getD weights m 0 * squares n m) i j
+      ∙ both-cong (λ n. sumBelow (λ m. getD weights m 0 * squares n m) A) (facesError A first s second t weights) i j (row-squares i) (row-squares j)

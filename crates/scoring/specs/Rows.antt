@@ -1,9 +1,9 @@
 -- What a score is summed from, row by row.
 use mathlib.Core.Path.{_≡_}
 use mathlib.Core.List.{List}
-use Prim.Native.Nat.{ℕ, _*_, _<_}
+use Prim.Native.Nat.{ℕ, _+_, _*_, _≤_, _<_}
 use lib.IntN.{ℤ}
-use lib.ListN.{getD}
+use lib.ListN.{length, getD}
 use Rattle.arithmetic.specs.Sums.{sumBelow}
 use Rattle.cubemap.specs.declared.Format.{Format}
 use Rattle.cubemap.specs.Frames.{planeSamples, sampleAt}
@@ -36,3 +36,35 @@ faceError A first s second t weights n =
 -- and of all six
 abbrev pub facesError : ℕ → List ℕ → List ℤ → List ℕ → List ℤ → List ℕ → ℕ → ℕ
 facesError A first s second t weights n = sumBelow (λ f. faceError A first (stepsIn s f) second (stepsIn t f) weights n) 6
+
+-- ---- the squared differences of a column, summed up before they are weighed
+
+-- the square at column m of row n of a face, and the sum of those of all six
+abbrev pub faceSquares : List ℕ → FaceSteps → List ℕ → FaceSteps → ℕ → ℕ → ℕ
+faceSquares first s second t n m = squaredDifference (sampleBySteps first s m n) (sampleBySteps second t m n)
+
+abbrev pub facesSquares : List ℕ → List ℤ → List ℕ → List ℤ → ℕ → ℕ → ℕ
+facesSquares first s second t n m = sumBelow (λ f. faceSquares first (stepsIn s f) second (stepsIn t f) n m) 6
+
+-- the bytes of a row of samples, from one end to the other
+pub record ScoredRow (A : ℕ) (row : List ℕ) : Type 0 where
+  pub long : 2 * A ≤ length row
+  pub within : (m : ℕ) → m < A → sampleAt row m < 4096
+
+-- a table with a sum of at most B for each column
+pub record SumsTo (A B : ℕ) (squares : List ℕ) : Type 0 where
+  pub whole : length squares ≡ 512
+  pub most : (m : ℕ) → m < A → getD squares m 0 ≤ B
+
+-- each sum can take another square: it stays within 32 bits
+abbrev pub Room : ℕ → List ℕ → Type 0
+Room A squares = SumsTo A 2147483648 squares
+
+-- to the sum of each column m is added `more m`
+pub record Added (A : ℕ) (more : ℕ → ℕ) (before after : List ℕ) : Type 0 where
+  pub whole : length after ≡ 512
+  pub entry : (m : ℕ) → m < A → getD after m 0 ≡ getD before m 0 + more m
+
+-- the sum of each column m is `sum m`
+pub record Squares (A : ℕ) (sum : ℕ → ℕ) (squares : List ℕ) : Type 0 where
+  pub entry : (m : ℕ) → m < A → getD squares m 0 ≡ sum m

@@ -1,10 +1,13 @@
 // Score: questions 1, 3, 4, 5 and 8 to 11 in order, and then the two sums.
 ghost use mathlib.Core.Path.{_≡_};
+ghost use mathlib.Core.Bool.{_&&_};
 ghost use Prim.Native.Nat.{ℕ, suc, _+_, _*_, _-_, _^_, _≤_, _<_};
-ghost use lib.IntN.{natAbs};
-ghost use lib.ListN.{length, getD};
+ghost use lib.IntN.{pos, negsuc, natAbs};
+ghost use lib.ListN.{length, getD, set};
+ghost use Rattle.arithmetic.specs.Integers.{equalℤ};
 ghost use Rattle.arithmetic.specs.Sums.{sumBelow, bothTerms};
 ghost use Rattle.cubemap.specs.declared.Format.{Format};
+ghost use Rattle.cubemap.specs.Frames.{sampleAt};
 ghost use Rattle.cubemap.specs.PlaceToRay.{fromCentre};
 ghost use Rattle.cubemap.specs.Score.{weightOf, difference, squaredDifference, errorSum, weightSum};
 ghost use Rattle.cubemap.specs.Checks.{scoreSettings};
@@ -14,7 +17,8 @@ ghost use Rattle.indices.specs.Steps.{sampleBy};
 ghost use Rattle.view.specs.Views.{shown, frameOf};
 ghost use Rattle.scoring.specs.Comparing.{Comparable, sumsOf};
 ghost use Rattle.scoring.specs.Tests.{passing, TestOf, Bounds, IsMost};
-ghost use Rattle.scoring.specs.Rows.{Weighed, ScoredFace, ScoredPlane, faceError, facesError};
+ghost use Rattle.scoring.specs.Rows.{Weighed, ScoredFace, ScoredPlane, ScoredRow, facesError};
+ghost use Rattle.scoring.specs.Rows.{faceSquares, facesSquares, SumsTo, Room, Added, Squares};
 use cubemap::Layout;
 use cubemap::Refusal;
 use cubemap::Scored;
@@ -87,27 +91,14 @@ fn most(test: WeightTest) -> u64
     low
 }
 
-// The guess, or the next number where that passes.
-fn stepped_up(test: WeightTest, guess: u64) -> u64
-    requires { ⌜ Bounds test × (guess ≤ 65536) ⌝ }
-    ensures { λ r. ⌜ r ≤ 65537 ⌝ }
-{
-    if passes(test, guess + 1) {
-        guess + 1
-    } else {
-        guess
-    }
-}
-
-// The largest W that passes, whatever the guess; at once where the guess is it, or one less.
+// The largest W that passes, whatever the guess; at once where the guess is it.
 fn most_near(test: WeightTest, guess: u64) -> u64
     requires { ⌜ Bounds test × (guess ≤ 65536) ⌝ }
     ensures { λ r. ⌜ IsMost test r ⌝ }
 {
-    let w = stepped_up(test, guess);
-    if passes(test, w) {
-        if !passes(test, w + 1) {
-            return w;
+    if passes(test, guess) {
+        if !passes(test, guess + 1) {
+            return guess;
         }
     }
     most(test)
@@ -121,29 +112,67 @@ fn length_squared(size: u64, p: u64, q: u64) -> u64
     size * size + p * p + q * q
 }
 
+// The test of a place, by the sizes of p and q.
+fn test_at(size: u64, p: u64, q: u64) -> WeightTest
+    requires { ⌜ (size ≤ 512) × (p < size) × (q < size) ⌝ }
+    ensures { λ r. ⌜ TestOf (4 * size ^ 6) (lengthSquared size p q) r ⌝ }
+{
+    test_of(4 * cube(size * size), length_squared(size, p, q))
+}
+
 // The weight by the sizes of p and q, whatever the guess.
 fn weight_of(size: u64, p: u64, q: u64, guess: u64) -> u64
     requires { ⌜ (1 ≤ size) × (size ≤ 512) × (p < size) × (q < size) × (guess ≤ 65536) ⌝ }
-    ensures { λ r. ⌜ r ≡ weightOf size p q ⌝ }
+    ensures { λ r. ⌜ (r ≡ weightOf size p q) × (r ≤ 65536) ⌝ }
 {
-    let limit = 4 * cube(size * size);
-    most_near(test_of(limit, length_squared(size, p, q)), guess)
+    most_near(test_at(size, p, q), guess)
 }
 
-// A number cut to 65,536, which no weight exceeds.
+// ---- guesses, as 65,536 times a weight with its fraction. Only the time that it takes to find a weight depends on them.
+
+// A number cut to 2^32, which no guess exceeds.
 fn cut(x: u64) -> u64
-    ensures { λ r. ⌜ r ≤ 65536 ⌝ }
+    ensures { λ r. ⌜ r ≤ 4294967296 ⌝ }
 {
-    if x <= 65536 { x } else { 65536 }
+    if x <= 4294967296 { x } else { 4294967296 }
 }
 
-// A guess at the weight where K is k, by the weight where it is `other`: a weight goes with K^(−3/2), and for near numbers (other / k)^(3/2) is
-// very nearly (5·other − k) / (5·k − other).
-fn guess_from(weight: u64, other: u64, k: u64) -> u64
+// A guess where K is k, by the one where it is `other`: a weight goes with K^(−3/2), and for near numbers (other / k)^(3/2) is very nearly
+// (5·other − k) / (5·k − other).
+fn guess_from(fine: u64, other: u64, k: u64) -> u64
     requires { ⌜ (k < 5 * other) × (other < 5 * k) × (k ≤ 786432) × (other ≤ 786432) ⌝ }
-    ensures { λ r. ⌜ r ≤ 65536 ⌝ }
+    ensures { λ r. ⌜ r ≤ 4294967296 ⌝ }
 {
-    cut(cut(weight) * (5 * other - k) / (5 * k - other))
+    cut(cut(fine) * (5 * other - k) / (5 * k - other))
+}
+
+// x − y, or 0 where that is more.
+fn less(x: u64, y: u64) -> u64
+    ensures { λ r. ⌜ r ≤ x ⌝ }
+{
+    if y <= x { x - y } else { 0 }
+}
+
+// A guess from the weight W itself: how far the limit is beyond W²·K³, as a part of the way to (W + 1)²·K³. (2^46 is 70,368,744,177,664.)
+fn guess_at(test: WeightTest, w: u64) -> u64
+    requires { ⌜ Bounds test × (w ≤ 65536) ⌝ }
+{
+    let square = w * w;
+    let beyond = less(
+        test.limit,
+        square * test.high + square * test.low / 1073741824,
+    );
+    65536 * w + beyond % 70368744177664 * 65536 / ((2 * w + 1) * test.high + 1)
+}
+
+// The guess, where it led to the weight; else one from the weight.
+fn corrected(size: u64, p: u64, q: u64, guess: u64, weight: u64) -> u64
+    requires { ⌜ (1 ≤ size) × (size ≤ 512) × (p < size) × (q < size) × (weight ≤ 65536) ⌝ }
+{
+    if guess / 65536 == weight {
+        return guess;
+    }
+    guess_at(test_at(size, p, q), weight)
 }
 
 // The row before, where there is one.
@@ -153,10 +182,10 @@ fn row_before(row: u64) -> u64
     if row == 0 { 0 } else { row - 1 }
 }
 
-// The weights of a row. What the table held before serves as guesses: the weights of the row before. Opposite columns have the same weight.
-fn weigh_row(size: u64, row: u64, weights: &mut [u64; 512])
-    requires { ⌜ (1 ≤ size) × (size ≤ 512) × (row < size) × (length (now weights) ≡ 512) ⌝ }
-    ensures { λ _. ⌜ Weighed size row (now (weights .exit)) × (length (now (weights .exit)) ≡ 512) ⌝ }
+// The weights of a row. The guesses are those of the row before, and then of this one. Opposite columns have the same weight.
+fn weigh_row(size: u64, row: u64, weights: &mut [u64; 512], guesses: &mut [u64; 256])
+    requires { ⌜ (1 ≤ size) × (size ≤ 512) × (row < size) × (length (now weights) ≡ 512) × (length (now guesses) ≡ 256) ⌝ }
+    ensures { λ _. ⌜ Weighed size row (now (weights .exit)) × (length (now (weights .exit)) ≡ 512) × (length (now (guesses .exit)) ≡ 256) ⌝ }
 {
     let q = offset(size, row);
     let q_before = offset(size, row_before(row));
@@ -167,8 +196,9 @@ fn weigh_row(size: u64, row: u64, weights: &mut [u64; 512])
         let p = opposite - column;
         let k = length_squared(size, p, q);
         let other = length_squared(size, p, q_before);
-        let guess = guess_from(weights[column as usize], other, k);
-        let weight = weight_of(size, p, q, guess);
+        let guess = guess_from(guesses[column as usize], other, k);
+        let weight = weight_of(size, p, q, guess / 65536);
+        guesses[column as usize] = corrected(size, p, q, guess, weight);
         weights[column as usize] = weight;
         weights[opposite as usize] = weight;
         column += 1;
@@ -193,62 +223,283 @@ fn square(d: u64) -> u64
     d * d
 }
 
-// W × squared difference.
-fn weighted(weight: u64, x: u64, y: u64) -> u64
-    requires { ⌜ (weight ≤ 65536) × (x < 4096) × (y < 4096) ⌝ }
-    ensures { λ r. ⌜ (r ≡ weight * squaredDifference x y) × (r ≤ 1098974822400) ⌝ }
+// The square of the difference of two samples.
+fn squared(x: u64, y: u64) -> u32
+    requires { ⌜ (x < 4096) × (y < 4096) ⌝ }
+    ensures { λ r. ⌜ (r ≡ squaredDifference x y) × (r ≤ 16769025) ⌝ }
 {
-    weight * square(apart(x, y))
+    square(apart(x, y)) as u32
 }
 
-// The error sum of a row of a face.
-fn face_error(
+// Adds the square of the difference of two samples to the sum of a column.
+fn add_square(squares: &mut [u32; 512], column: u64, x: u64, y: u64)
+    requires { ⌜ (column < 512) × (x < 4096) × (y < 4096) × (getD (now squares) column 0 ≤ 2147483648) ⌝ }
+    ensures { λ _. ⌜ now (squares .exit) ≡ set (now (squares .entry)) column (getD (now (squares .entry)) column 0 + squaredDifference x y) ⌝ }
+{
+    squares[column as usize] += squared(x, y);
+}
+
+// Adds the squares of a row of both frames to the sums of the columns. Each row is given from its first sample on.
+fn add_rows(size: u64, first: &[u8], second: &[u8], squares: &mut [u32; 512])
+    requires { ⌜ (size ≤ 512) × ScoredRow size (now first) × ScoredRow size (now second) × Room size (now squares) ⌝ }
+    ensures { λ _. ⌜ Added size (λ m. squaredDifference (sampleAt (now (first .entry)) m) (sampleAt (now (second .entry)) m))
+        (now (squares .entry)) (now (squares .exit)) ⌝ }
+{
+    let mut column: u64 = 0;
+    while column < size {
+        let x = frame::sample(first, column as usize);
+        let y = frame::sample(second, column as usize);
+        add_square(squares, column, x, y);
+        column += 1;
+    }
+}
+
+// Adds the squares of a row of both frames that is given from its last sample back to its first.
+fn add_rows_back(size: u64, first: &[u8], second: &[u8], squares: &mut [u32; 512])
+    requires { ⌜ (size ≤ 512) × ScoredRow size (now first) × ScoredRow size (now second) × Room size (now squares) ⌝ }
+    ensures { λ _. ⌜ Added size (λ m. squaredDifference (sampleAt (now (first .entry)) (size - suc m)) (sampleAt (now (second .entry)) (size - suc m)))
+        (now (squares .entry)) (now (squares .exit)) ⌝ }
+{
+    let mut at: u64 = 0;
+    while at < size {
+        let x = frame::sample(first, at as usize);
+        let y = frame::sample(second, at as usize);
+        at += 1;
+        add_square(squares, size - at, x, y);
+    }
+}
+
+// Adds the squares of a row that is given from its first sample on in one frame, and from its last sample back in the other.
+fn add_rows_against(size: u64, ahead: &[u8], back: &[u8], squares: &mut [u32; 512])
+    requires { ⌜ (size ≤ 512) × ScoredRow size (now ahead) × ScoredRow size (now back) × Room size (now squares) ⌝ }
+    ensures { λ _. ⌜ Added size (λ m. squaredDifference (sampleAt (now (ahead .entry)) m) (sampleAt (now (back .entry)) (size - suc m)))
+        (now (squares .entry)) (now (squares .exit)) ⌝ }
+{
+    let mut column: u64 = 0;
+    while column < size {
+        let x = frame::sample(ahead, column as usize);
+        let y = frame::sample(back, (size - 1 - column) as usize);
+        add_square(squares, column, x, y);
+        column += 1;
+    }
+}
+
+// Adds the squares of a row of a face that lies unbroken in both frames: its samples are handed on as a part of each plane.
+fn add_unbroken(
     size: u64,
     first: &[u8],
     first_steps: FaceSteps,
     second: &[u8],
     second_steps: FaceSteps,
-    weights: &[u64; 512],
     row: u64,
-) -> u64
-    requires { ⌜ ScoredFace size (now first) «first_steps» × ScoredFace size (now second) «second_steps» ⌝ }
-    requires { ⌜ Weighed size row (now weights) × (1 ≤ size) × (row < size) ⌝ }
-    ensures { λ r. ⌜ (r ≡ faceError size (now (first .entry)) «first_steps» (now (second .entry)) «second_steps» (now (weights .entry)) row)
-        × (r ≤ 562675109068800) ⌝ }
+    squares: &mut [u32; 512],
+)
+    requires { ⌜ ScoredFace size (now first) «first_steps» × ScoredFace size (now second) «second_steps» × (row < size) × Room size (now squares) ⌝ }
+    requires { ⌜ («first_steps» .across ≡ pos 1) × («second_steps» .across ≡ pos 1) ⌝ }
+    ensures { λ _. ⌜ Added size (faceSquares (now (first .entry)) «first_steps» (now (second .entry)) «second_steps» row)
+        (now (squares .entry)) (now (squares .exit)) ⌝ }
 {
-    let mut error: u64 = 0;
+    let length = 2 * (size as usize);
+    let from = 2 * (indices::step_to(first_steps, 0, row) as usize);
+    let to = from + length;
+    let other_from = 2 * (indices::step_to(second_steps, 0, row) as usize);
+    let other_to = other_from + length;
+    add_rows(
+        size,
+        &first[from..to],
+        &second[other_from..other_to],
+        squares,
+    )
+}
+
+// Adds the squares of a row of a face that lies unbroken in both frames, from right to left.
+fn add_unbroken_back(
+    size: u64,
+    first: &[u8],
+    first_steps: FaceSteps,
+    second: &[u8],
+    second_steps: FaceSteps,
+    row: u64,
+    squares: &mut [u32; 512],
+)
+    requires { ⌜ ScoredFace size (now first) «first_steps» × ScoredFace size (now second) «second_steps» × (row < size) × Room size (now squares) ⌝ }
+    requires { ⌜ («first_steps» .across ≡ negsuc 0) × («second_steps» .across ≡ negsuc 0) ⌝ }
+    ensures { λ _. ⌜ Added size (faceSquares (now (first .entry)) «first_steps» (now (second .entry)) «second_steps» row)
+        (now (squares .entry)) (now (squares .exit)) ⌝ }
+{
+    let last = size - 1;
+    let length = 2 * (size as usize);
+    let from = 2 * (indices::step_to(first_steps, last, row) as usize);
+    let to = from + length;
+    let other_from = 2 * (indices::step_to(second_steps, last, row) as usize);
+    let other_to = other_from + length;
+    add_rows_back(
+        size,
+        &first[from..to],
+        &second[other_from..other_to],
+        squares,
+    )
+}
+
+// Adds the squares of a row of a face that lies unbroken in both frames, from left to right in one and from right to left in the other.
+fn add_against(
+    size: u64,
+    ahead: &[u8],
+    ahead_steps: FaceSteps,
+    back: &[u8],
+    back_steps: FaceSteps,
+    row: u64,
+    squares: &mut [u32; 512],
+)
+    requires { ⌜ ScoredFace size (now ahead) «ahead_steps» × ScoredFace size (now back) «back_steps» × (row < size) × Room size (now squares) ⌝ }
+    requires { ⌜ («ahead_steps» .across ≡ pos 1) × («back_steps» .across ≡ negsuc 0) ⌝ }
+    ensures { λ _. ⌜ Added size (faceSquares (now (ahead .entry)) «ahead_steps» (now (back .entry)) «back_steps» row)
+        (now (squares .entry)) (now (squares .exit)) ⌝ }
+{
+    let last = size - 1;
+    let length = 2 * (size as usize);
+    let from = 2 * (indices::step_to(ahead_steps, 0, row) as usize);
+    let to = from + length;
+    let back_from = 2 * (indices::step_to(back_steps, last, row) as usize);
+    let back_to = back_from + length;
+    add_rows_against(size, &ahead[from..to], &back[back_from..back_to], squares)
+}
+
+// Adds the squares of a row of any face, each sample by the steps.
+fn add_by_steps(
+    size: u64,
+    first: &[u8],
+    first_steps: FaceSteps,
+    second: &[u8],
+    second_steps: FaceSteps,
+    row: u64,
+    squares: &mut [u32; 512],
+)
+    requires { ⌜ ScoredFace size (now first) «first_steps» × ScoredFace size (now second) «second_steps» × (row < size) × Room size (now squares) ⌝ }
+    ensures { λ _. ⌜ Added size (faceSquares (now (first .entry)) «first_steps» (now (second .entry)) «second_steps» row)
+        (now (squares .entry)) (now (squares .exit)) ⌝ }
+{
     let mut column: u64 = 0;
     while column < size {
         let x = indices::sample_by_steps(first, size, first_steps, column, row);
         let y = indices::sample_by_steps(second, size, second_steps, column, row);
-        error += weighted(weights[column as usize], x, y);
+        add_square(squares, column, x, y);
         column += 1;
     }
-    error
 }
 
-// The error sum of a row of all six faces.
-fn faces_error(
+// Does a row of a face run by this step in the first frame, and by that one in the second?
+fn steps_are(first: FaceSteps, step: i64, second: FaceSteps, other: i64) -> bool
+    ensures { λ r. ⌜ r ≡ (equalℤ (first .across) step && equalℤ (second .across) other) ⌝ }
+{
+    let across = first.across;
+    let other_across = second.across;
+    (across == step) & (other_across == other)
+}
+
+// Adds the squares of a row of a face.
+fn add_face(
+    size: u64,
+    first: &[u8],
+    first_steps: FaceSteps,
+    second: &[u8],
+    second_steps: FaceSteps,
+    row: u64,
+    squares: &mut [u32; 512],
+)
+    requires { ⌜ ScoredFace size (now first) «first_steps» × ScoredFace size (now second) «second_steps» × (row < size) × Room size (now squares) ⌝ }
+    ensures { λ _. ⌜ Added size (faceSquares (now (first .entry)) «first_steps» (now (second .entry)) «second_steps» row)
+        (now (squares .entry)) (now (squares .exit)) ⌝ }
+{
+    if steps_are(first_steps, 1, second_steps, 1) {
+        return add_unbroken(size, first, first_steps, second, second_steps, row, squares);
+    }
+    if steps_are(first_steps, 0 - 1, second_steps, 0 - 1) {
+        return add_unbroken_back(size, first, first_steps, second, second_steps, row, squares);
+    }
+    if steps_are(first_steps, 1, second_steps, 0 - 1) {
+        return add_against(size, first, first_steps, second, second_steps, row, squares);
+    }
+    if steps_are(first_steps, 0 - 1, second_steps, 1) {
+        return add_against(size, second, second_steps, first, first_steps, row, squares);
+    }
+    add_by_steps(size, first, first_steps, second, second_steps, row, squares)
+}
+
+// Adds the squares of a row of all six faces.
+fn add_faces(
     size: u64,
     first: &[u8],
     first_steps: &[i64; 18],
     second: &[u8],
     second_steps: &[i64; 18],
-    weights: &[u64; 512],
     row: u64,
-) -> u64
-    requires { ⌜ ScoredPlane size (now first) (now «first_steps») × ScoredPlane size (now second) (now «second_steps») ⌝ }
-    requires { ⌜ Weighed size row (now weights) × (row < size) ⌝ }
-    ensures { λ r. ⌜ (r ≡ facesError size (now (first .entry)) (now («first_steps» .entry)) (now (second .entry)) (now («second_steps» .entry))
-        (now (weights .entry)) row) × (r ≤ 3376050654412800) ⌝ }
+    squares: &mut [u32; 512],
+)
+    requires { ⌜ ScoredPlane size (now first) (now «first_steps») × ScoredPlane size (now second) (now «second_steps») × (row < size) ⌝ }
+    requires { ⌜ SumsTo size 100614150 (now squares) ⌝ }
+    ensures { λ _. ⌜ Added size (facesSquares (now (first .entry)) (now («first_steps» .entry)) (now (second .entry)) (now («second_steps» .entry)) row)
+        (now (squares .entry)) (now (squares .exit)) ⌝ }
 {
-    let mut error: u64 = 0;
     let mut face: u64 = 0;
     while face < 6 {
         let from = indices::steps_at(first_steps, face);
         let to = indices::steps_at(second_steps, face);
-        error += face_error(size, first, from, second, to, weights, row);
+        add_face(size, first, from, second, to, row, squares);
         face += 1;
+    }
+}
+
+// The squares of a row and of its mirror, the opposite row; of the one row where they are the same.
+fn squares_of(
+    size: u64,
+    first: &[u8],
+    first_steps: &[i64; 18],
+    second: &[u8],
+    second_steps: &[i64; 18],
+    row: u64,
+    mirror: u64,
+) -> [u32; 512]
+    requires { ⌜ ScoredPlane size (now first) (now «first_steps») × ScoredPlane size (now second) (now «second_steps») ⌝ }
+    requires { ⌜ (row < size) × (mirror < size) ⌝ }
+    ensures { λ r. ⌜ Squares size (λ m. bothTerms (λ n. facesSquares (now (first .entry)) (now («first_steps» .entry)) (now (second .entry))
+        (now («second_steps» .entry)) n m) row mirror) r ⌝ }
+{
+    let mut squares = [0; 512];
+    add_faces(
+        size,
+        first,
+        first_steps,
+        second,
+        second_steps,
+        row,
+        &mut squares,
+    );
+    if row < mirror {
+        add_faces(
+            size,
+            first,
+            first_steps,
+            second,
+            second_steps,
+            mirror,
+            &mut squares,
+        );
+    }
+    squares
+}
+
+// The sum of the squares by their weights.
+fn weigh(size: u64, weights: &[u64; 512], squares: &[u32; 512]) -> u64
+    requires { ⌜ (size ≤ 512) × ((m : ℕ) → m < size → getD (now weights) m 0 ≤ 65536) × ((m : ℕ) → m < size → getD (now squares) m 0 ≤ 201228300) ⌝ }
+    ensures { λ r. ⌜ (r ≡ sumBelow (λ m. getD (now (weights .entry)) m 0 * getD (now (squares .entry)) m 0) size) × (r ≤ 6752101308825600) ⌝ }
+{
+    let mut error: u64 = 0;
+    let mut column: u64 = 0;
+    while column < size {
+        let sum = squares[column as usize] as u64;
+        error += weights[column as usize] * sum;
+        column += 1;
     }
     error
 }
@@ -269,20 +520,8 @@ fn rows_error(
     ensures { λ r. ⌜ (r ≡ bothTerms (facesError size (now (first .entry)) (now («first_steps» .entry)) (now (second .entry)) (now («second_steps» .entry))
         (now (weights .entry))) row mirror) × (r ≤ 6752101308825600) ⌝ }
 {
-    let error = faces_error(size, first, first_steps, second, second_steps, weights, row);
-    if row < mirror {
-        let other = faces_error(
-            size,
-            first,
-            first_steps,
-            second,
-            second_steps,
-            weights,
-            mirror,
-        );
-        return error + other;
-    }
-    error
+    let squares = squares_of(size, first, first_steps, second, second_steps, row, mirror);
+    weigh(size, weights, &squares)
 }
 
 // The sum of the weights of a row.
@@ -325,13 +564,14 @@ fn score_planes(
         (weightSum format size)) ⌝ }
 {
     let mut weights = [0; 512];
+    let mut guesses = [0; 256];
     let mut errors: u64 = 0;
     let mut sum: u64 = 0;
     let mut row: u64 = 0;
     let mut opposite: u64 = size;
     while row < opposite {
         opposite -= 1;
-        weigh_row(size, row, &mut weights);
+        weigh_row(size, row, &mut weights, &mut guesses);
         errors += rows_error(
             size,
             first,

@@ -1,5 +1,5 @@
 -- `samples_ok` meets its contract: the bits so far are below 2^D exactly where each sample so far is.
-use mathlib.Core.Path.{_≡_, sym, _∙_, ap, ap₂}
+use mathlib.Core.Path.{_≡_, refl, sym, _∙_, ap, ap₂}
 use mathlib.Core.List.{List}
 use mathlib.Core.Bool.{true, _&&_}
 use Prim.Native.Nat.{ℕ, _-_, _^_, _≤_}
@@ -7,7 +7,7 @@ use native.Mathlib.Omega.{arith}
 use lib.Dec.{ltb}
 use lib.Pow.{pow-pos}
 use borrow.Author.Needs.{needs}
-use borrow.Author.Tests.{lt-ltb}
+use borrow.Author.Tests.{lt-ltb, ltb-true}
 use Rattle.arithmetic.specs.Searches.{allBelow}
 use Rattle.arithmetic.proofs.Bits.{or-below}
 use Rattle.arithmetic.proofs.Searches.{asked-none, all-pass, all-next}
@@ -20,6 +20,7 @@ use Rattle.frame.proofs.samples_ok.Tie as tie
 -- the bits of the samples below i
 record Gathered (shape : Shape) (bytes : List ℕ) (count bits i : ℕ) : Type 0 where
   bounded : i ≤ count
+  sixteen : ltb bits (2 ^ 16) ≡ true
   agrees : ltb bits (2 ^ shape .depth) ≡ allBelow (sampleOK shape bytes) i
 
 abbrev Inv-loop : tie.InvT-loop
@@ -43,6 +44,7 @@ loop-again c =
     let s = l .before .before .before .args in
     record {
       bounded = omega arith;
+      sixteen = or-below 16 (l .loop .bits) (c .sample .result) ∙ ap₂ _&&_ (l .loop .inv .sixteen) (lt-ltb _ _ (c .sample .ensures .1));
       agrees = or-below (s .shape .depth) (l .loop .bits) (c .sample .result)
           ∙ ap₂ _&&_ (l .loop .inv .agrees) (ap (λ v. ltb v (2 ^ s .shape .depth)) (c .sample .ensures .0))
           ∙ sym (all-next (sampleOK (s .shape) (s .bytes .now)) (l .loop .i));
@@ -51,6 +53,7 @@ loop-again c =
 loop-holds : tie.Need-loop-holds Inv-loop μ-loop
 loop-holds c = record {
   bounded = omega arith;
+  sixteen = refl;
   agrees = lt-ltb _ _ (pow-pos (c .before .before .args .shape .depth)) ∙ sym (all-pass (asked-none _ true 0) (omega arith));
 }
 
@@ -60,11 +63,17 @@ samples-in-requires c κs = search needs
 sample-requires : tie.Need-sample-requires Inv-loop μ-loop
 sample-requires c κs = omega (arith, bytes-number (c .before .before .before .before .args .shape))
 
+cast-bits : tie.Need-cast-bits Inv-loop μ-loop
+cast-bits c = omega (arith, c .sample .ensures .1)
+
 add-i : tie.Need-add-i Inv-loop μ-loop
 add-i c = search needs
 
 loop-less : tie.Need-loop-less Inv-loop μ-loop
 loop-less c = search needs
+
+cast-result : tie.Need-cast-result Inv-loop μ-loop
+cast-result c = omega (arith, ltb-true (c .before .loop .bits) (2 ^ 16) (c .before .loop .inv .sixteen))
 
 sample-bound-requires : tie.Need-sample-bound-requires Inv-loop μ-loop
 sample-bound-requires c κs = search needs
@@ -78,8 +87,10 @@ samples-ok-spec =
     samples-in-requires
     loop-holds
     sample-requires
+    cast-bits
     add-i
     loop-less
     loop-again
+    cast-result
     sample-bound-requires
     returns)

@@ -6,7 +6,7 @@ use borrow.Author.Needs.{needs}
 use Rattle.scoring.proofs.guess_from.Statement.{statement}
 use Rattle.scoring.proofs.guess_from.Tie as tie
 
-product : (known other k : ℕ) → known ≤ 65536 → other ≤ 786432 → known * (5 * other - k) ≤ 65536 * 3932160
+product : (known other k : ℕ) → known ≤ 4294967296 → other ≤ 786432 → known * (5 * other - k) ≤ 4294967296 * 3932160
 product known other k h b = mul-le-mul h (factor b)
   where
     factor : other ≤ 786432 → 5 * other - k ≤ 3932160

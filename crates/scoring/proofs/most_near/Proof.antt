@@ -6,9 +6,6 @@ use Rattle.arithmetic.proofs.Tests.{passes, fails}
 use Rattle.scoring.proofs.most_near.Statement.{statement}
 use Rattle.scoring.proofs.most_near.Tie as tie
 
-stepped-up-requires : tie.Need-stepped-up-requires
-stepped-up-requires c κs = search needs
-
 passes-requires : tie.Need-passes-requires
 passes-requires c κs = search needs
 
@@ -34,7 +31,6 @@ pub most-near-spec : {M : Type 1} → statement M
 most-near-spec =
     tie.close
     (tie.spec
-    stepped-up-requires
     passes-requires
     add-passes
     passes-requires-2

@@ -23,25 +23,27 @@ abbrev rowWeights : Format → ℕ → ℕ → ℕ
 rowWeights format A n = sumBelow (λ m. weight format A m n) A
 
 -- for every format
-record RowsSummed (size : ℕ) (first second : Place → ℕ) (weights : List ℕ) (errors sum row opposite : ℕ) : Type 0 where
+record RowsSummed (size : ℕ) (first second : Place → ℕ) (weights guesses : List ℕ) (errors sum row opposite : ℕ) : Type 0 where
   meet : row + opposite ≡ size
   passed : row ≤ opposite + 1
   whole : length weights ≡ 512
+  guessed : length guesses ≡ 256
   error-sum : (format : Format) → Running (λ n. bothTerms (rowErrors format size first second) n (size - suc n)) 6752101308825600 row errors
   weight-sum : (format : Format) → Running (λ n. bothTerms (rowWeights format size) n (size - suc n)) 67108864 row sum
 
 abbrev Inv-loop : tie.InvT-loop
-Inv-loop size first first-steps second second-steps weights₀ errors₀ sum₀ row₀ opposite₀ weights errors sum row opposite =
-    RowsSummed size (sampleBy first first-steps) (sampleBy second second-steps) weights errors sum row opposite
+Inv-loop size first first-steps second second-steps weights₀ guesses₀ errors₀ sum₀ row₀ opposite₀ weights guesses errors sum row opposite =
+    RowsSummed size (sampleBy first first-steps) (sampleBy second second-steps) weights guesses errors sum row opposite
 
 abbrev μ-loop : tie.MeasureT-loop
-μ-loop size first first-steps second second-steps weights₀ errors₀ sum₀ row₀ opposite₀ weights errors sum row opposite = opposite - row
+μ-loop size first first-steps second second-steps weights₀ guesses₀ errors₀ sum₀ row₀ opposite₀ weights guesses errors sum row opposite = opposite - row
 
 loop-holds : tie.Need-loop-holds Inv-loop μ-loop
 loop-holds c = record {
   meet = omega arith;
   passed = omega arith;
   whole = refl;
+  guessed = refl;
   error-sum = λ format. running-none _ 6752101308825600;
   weight-sum = λ format. running-none _ 67108864;
 }
@@ -51,26 +53,27 @@ sub-opposite c = omega arith
 
 weigh-row-requires : tie.Need-weigh-row-requires Inv-loop μ-loop
 weigh-row-requires c κs =
-    let p = c .before .before .before .before .before .pre .0 .stepped in
-    (p .size-least, p .size-most, omega arith, c .before .before .loop .inv .whole)
+    let l = c .before .before .before .loop .inv in
+    let p = c .before .before .before .before .before .before .pre .0 .stepped in
+    (p .size-least, p .size-most, omega arith, l .whole, l .guessed)
 
 rows-error-requires : tie.Need-rows-error-requires Inv-loop μ-loop
-rows-error-requires c κs = (c .before .before .before .before .before .before .before .pre, (c .before .weigh-row .ensures .0, omega arith, omega arith))
+rows-error-requires c κs = (c .before .before .before .before .before .before .before .before .pre, (c .before .weigh-row .ensures .0, omega arith, omega arith))
 
 add-errors : tie.Need-add-errors Inv-loop μ-loop
 add-errors c =
-    let l = c .before .before .before .before .before .loop in
-    omega (arith, c .rows-error .ensures .1, l .inv .error-sum Format.Cmp .small, c .before .before .before .before .before .before .before .before .pre .0 .stepped .size-most)
+    let l = c .before .before .before .before .before .before .loop in
+    omega (arith, c .rows-error .ensures .1, l .inv .error-sum Format.Cmp .small, c .before .before .before .before .before .before .before .before .before .pre .0 .stepped .size-most)
 
 rows-weight-requires : tie.Need-rows-weight-requires Inv-loop μ-loop
 rows-weight-requires c κs =
-    let p = c .before .before .before .before .before .before .before .before .before .pre .0 .stepped in
+    let p = c .before .before .before .before .before .before .before .before .before .before .pre .0 .stepped in
     (c .before .before .before .weigh-row .ensures .0, p .size-least, p .size-most)
 
 add-sum : tie.Need-add-sum Inv-loop μ-loop
 add-sum c =
-    let l = c .before .before .before .before .before .before .before .loop in
-    omega (arith, c .rows-weight .ensures .1, l .inv .weight-sum Format.Cmp .small, c .before .before .before .before .before .before .before .before .before .before .pre .0 .stepped .size-most)
+    let l = c .before .before .before .before .before .before .before .before .loop in
+    omega (arith, c .rows-weight .ensures .1, l .inv .weight-sum Format.Cmp .small, c .before .before .before .before .before .before .before .before .before .before .before .pre .0 .stepped .size-most)
 
 add-row : tie.Need-add-row Inv-loop μ-loop
 add-row c = omega arith
@@ -84,8 +87,8 @@ across-from size row opposite h = omega arith
 
 loop-again : tie.Need-loop-again Inv-loop μ-loop
 loop-again c =
-    let a = c .before .before .before .before .before .before .before .before .before .before .args in
-    let l = c .before .before .before .before .before .before .before .loop in
+    let a = c .before .before .before .before .before .before .before .before .before .before .before .args in
+    let l = c .before .before .before .before .before .before .before .before .loop in
     let w = c .before .before .before .before .weigh-row .ensures in
     let e = c .before .before .rows-error .ensures in
     let below : l .row < a .size = omega arith in
@@ -94,6 +97,7 @@ loop-again c =
       meet = omega arith;
       passed = omega arith;
       whole = w .1;
+      guessed = w .2;
       error-sum = λ format. running-next (l .inv .error-sum format)
           (e .0
           ∙ ap (bothTerms (facesError (a .size) (a .first .now) (a .first-steps .now) (a .second .now) (a .second-steps .now) (c .before .before .before .before .weigh-row .last .1 .1 .0)) (l .row)) o
@@ -106,8 +110,8 @@ loop-again c =
           (c .rows-weight .ensures .1);
     }
 
-mul-t17 : tie.Need-mul-t17 Inv-loop μ-loop
-mul-t17 c =
+mul-t19 : tie.Need-mul-t19 Inv-loop μ-loop
+mul-t19 c =
     let l = c .before .loop in
     omega (arith, l .inv .weight-sum Format.Cmp .small, c .before .before .before .before .pre .0 .stepped .size-most)
 
@@ -139,5 +143,5 @@ score-planes-spec =
     add-row
     loop-less
     loop-again
-    mul-t17
+    mul-t19
     returns)
