@@ -11,7 +11,7 @@
  *
  * What the caller owes. No buffer that a call writes overlaps another one lent to it; a call without this is outside every
  * promise. Buffers that a call only reads may overlap or be the same. A pointer that is not NULL points at as many bytes as its
- * length says.
+ * length says. The floating-point environment is the default one, which rounds to nearest, as C compilers take it to be.
  *
  * Threads. Calls keep nothing and share nothing, so threads may call at the same time, each with buffers of its own.
  */

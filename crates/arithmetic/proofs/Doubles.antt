@@ -14,7 +14,7 @@ use lib.Ieee.{div, le, ofInt, inFloat, isNan}
 use borrow.Author.Tests.{ne-eqb}
 use lib.Pow.{pow-add, pow-mono, pow-pos, shl-lt}
 use lib.Ieee.Digits.{size-lt, size-le}
-use lib.Ieee.Nearest.{closest, closest-same}
+use lib.Ieee.Nearest.{closest, closest-same, closest-mono}
 use lib.Ieee.Exact.{HasValue, round-exact}
 use lib.Ieee.Order.{round-mono}
 use lib.Ieee.Positive.{num, den, den-pos, positive, own-value, first-pos, positive-of-value, values-of-le, between}
@@ -254,23 +254,30 @@ unscaled (fin s m e) W L p h = (
   eq-of-mul-eq-mul-right L p (m * up e * 1) (W * down e) (ap (λ k. k * L) (mul-one (m * up e)) ∙ h .1 ∙ mul-right-comm W L (down e)),
 )
 
+-- so it rounds to a whole number, the closest one
+round-integer : (n c : ℕ) → 0 < c → 2 ^ 52 * c ≤ n → n < 2 ^ 53 * c → closest n c < 2 ^ 54 → HasValue (round binary64 false n c) false (closest n c) 1
+round-integer n c p low high small =
+    unscaled (round binary64 false n c) (closest n c) (2 ^ 1074) (pow-pos 1074)
+    (subst (λ m. HasValue (round binary64 false n c) false m (2 ^ 1074)) is
+    (round-val binary64 n c (subst (λ m. m < 2 ^ (1074 + 1024)) (sym is) (lt-of-lt-of-le (shl-lt 54 1074 small) (pow-mono room)))))
+  where
+    room : 54 + 1074 ≤ 1074 + 1024
+    room = lit≤ tt
+
+    is : grid binary64 n c ≡ closest n c * 2 ^ 1074
+    is = ap (λ l. closest (n * 2 ^ 1074) (c * 2 ^ l) * 2 ^ l) (drops 1074 n c p low high) ∙ ap (λ m. m * 2 ^ 1074) (keeps 1074 n c p)
+
 -- a fraction less than 1/2 off the whole number W rounds to it
 pub round-whole-number : (n c W : ℕ) → 0 < c → 2 ^ 52 * c ≤ n → n < 2 ^ 53 * c → 2 * n < (2 * W + 1) * c → 2 * W * c < 2 * n + c
     → HasValue (round binary64 false n c) false W 1
 round-whole-number n c W p low high above below =
-    unscaled (round binary64 false n c) W (2 ^ 1074) (pow-pos 1074)
-    (subst (λ m. HasValue (round binary64 false n c) false m (2 ^ 1074)) is
-    (round-val binary64 n c (subst (λ m. m < 2 ^ (1074 + 1024)) (sym is) (lt-of-lt-of-le (shl-lt 54 1074 small) (pow-mono room)))))
+    subst (λ w. HasValue (round binary64 false n c) false w 1) is (round-integer n c p low high (subst (λ w. w < 2 ^ 54) (sym is) small))
   where
+    is : closest n c ≡ W
+    is = closest-is n c W p above below
+
     small : W < 2 ^ 54
     small = let h : W < 2 ^ 53 + 1 = lt-of-mul-lt-mul-right c (omega arith) in omega arith
-
-    room : 54 + 1074 ≤ 1074 + 1024
-    room = lit≤ tt
-
-    is : grid binary64 n c ≡ W * 2 ^ 1074
-    is = ap (λ l. closest (n * 2 ^ 1074) (c * 2 ^ l) * 2 ^ l) (drops 1074 n c p low high)
-        ∙ ap (λ m. m * 2 ^ 1074) (keeps 1074 n c p ∙ closest-is n c W p above below)
 
 -- the bits of a double that is not negative, by its size n in units of the smallest value
 toBits-at : (f : Format) (m : ℕ) (e : ℤ) (n : ℕ) → m * up e * 2 ^ low f / down e ≡ n
@@ -450,7 +457,110 @@ nearest-quotient {x} {y} {z} {n} {e} k p q r n0 e0 small h low high =
         (omega arith) (omega arith) (omega arith) (omega arith) (omega arith) (omega arith))
         constant h (omega arith) (omega arith)
 
+-- ---- a larger quotient, rounded to a whole number: it is the quotient rounded down, or the next one
+
+pub record NearBits (x : Float) (k : ℕ) : Type 0 where
+  pub number : T (not (isNan x))
+  pub least : k ≤ toBits binary64 x % 2251799813685248
+  pub most : toBits binary64 x % 2251799813685248 ≤ k + 1
+
+-- 1.5 · 2^52 added to a double from k to k + 1
+shifted-near : (x y : Float) (k : ℕ) → T (positive x) → HasValue y false 6755399441055744 1 → k < 2 ^ 50
+    → k * den x ≤ num x → num x ≤ (k + 1) * den x → NearBits (add binary64 x y) k
+shifted-near x y k p v h least most = record {
+  number = value-number (add binary64 x y) W value;
+  least = subst (λ n. k ≤ n) (sym bits) (omega (arith, low));
+  most = subst (λ n. n ≤ k + 1) (sym bits) (omega (arith, low, high));
+}
+  where
+    q : ℕ
+    q = den x
+
+    W : ℕ
+    W = closest (num x + 6755399441055744 * q) q
+
+    whole : (n : ℕ) → closest n 1 ≡ n
+    whole n = closest-is n 1 n (omega arith) (omega arith) (omega arith)
+
+    low : 6755399441055744 + k ≤ W
+    low = subst (λ n. n ≤ W) (whole (6755399441055744 + k))
+        (closest-mono (6755399441055744 + k) 1 (num x + 6755399441055744 * q) q (omega arith) (den-pos x) (omega (arith, least)))
+
+    high : W ≤ 6755399441055744 + (k + 1)
+    high = subst (λ n. W ≤ n) (whole (6755399441055744 + (k + 1)))
+        (closest-mono (num x + 6755399441055744 * q) q (6755399441055744 + (k + 1)) 1 (den-pos x) (omega arith) (omega (arith, most)))
+
+    value : HasValue (add binary64 x y) false W 1
+    value =
+        let b : (k + 1) * q ≤ 2 ^ 50 * q = mul-le-mul-right q h′ in
+        let d = den-pos x in
+        subst (λ x. HasValue x false W 1) (sym (add-is x y 6755399441055744 p v))
+        (round-integer (num x + 6755399441055744 * q) q d (omega arith) (omega (arith, most)) (omega (arith, high)))
+      where
+        h′ : k + 1 ≤ 2 ^ 50
+        h′ = omega arith
+
+    bits : toBits binary64 (add binary64 x y) % 2251799813685248 ≡ W - 6755399441055744
+    bits = ap (λ n. n % 2251799813685248) (bits-whole (add binary64 x y) W value (omega (arith, low)) (omega (arith, high))) ∙ lowest W low high
+      where
+        lowest : (w : ℕ) → 6755399441055744 + k ≤ w → w ≤ 6755399441055744 + (k + 1) → (1074 * 2 ^ 52 + w) % 2251799813685248 ≡ w - 6755399441055744
+        lowest w l m = omega arith
+
+pub quotient-or-next : {x y z : Float} {n e : ℕ} → IsWhole x (pos n) → IsWhole y (pos e) → IsWhole z (pos 6755399441055744)
+    → 0 < e → e ≤ n → n / e < 2 ^ 50 → NearBits (add binary64 (div binary64 x y) z) (n / e)
+quotient-or-next {x} {y} {z} {n} {e} p q r e0 above h =
+    subst (λ x. NearBits (add binary64 x z) k) (sym (div-values x y n e (whole-value x n (omega arith) p) (whole-value y e e0 q) e0))
+    (shifted-near quotient z k middle (whole-value z 6755399441055744 (omega arith) r) h
+    (subst (λ m. k * den quotient ≤ m) (mul-one (num quotient))
+    (values-of-le first quotient k 1 (num quotient) (den quotient) first-above middle (exact k low) (own-value quotient middle) below))
+    (subst (λ m. m ≤ (k + 1) * den quotient) (mul-one (num quotient))
+    (values-of-le quotient last (num quotient) (den quotient) (k + 1) 1 middle last-above (own-value quotient middle) (exact (k + 1) (omega arith)) beyond)))
+  where
+    k : ℕ
+    k = n / e
+
+    split : k * e + n % e ≡ n
+    split = div-add-mod' n e
+
+    k0 : 0 < k
+    k0 = le-div-iff-mul-le e0 .1 (omega arith)
+
+    low : k ≤ 2 ^ 53
+    low = omega arith
+
+    quotient : Float
+    quotient = round binary64 false n e
+
+    first : Float
+    first = round binary64 false k 1
+
+    last : Float
+    last = round binary64 false (k + 1) 1
+
+    exact : (m : ℕ) → m ≤ 2 ^ 53 → HasValue (round binary64 false m 1) false m 1
+    exact m l = round-whole binary64 false m l
+
+    first-above : T (positive first)
+    first-above = positive-of-value first k 1 (exact k low) k0
+
+    last-above : T (positive last)
+    last-above = positive-of-value last (k + 1) 1 (exact (k + 1) (omega arith)) (omega arith)
+
+    below : T (le first quotient)
+    below = round-mono binary64 k 1 n e (omega arith) e0 (omega (arith, split))
+
+    beyond : T (le quotient last)
+    beyond = round-mono binary64 n e (k + 1) 1 e0 (omega arith) (omega (arith, split, mod-lt n e0))
+
+    middle : T (positive quotient)
+    middle = between first quotient last first-above last-above below beyond
+
 -- the double that is written 6755399441055744.0
 pub shift-whole : IsWhole (ofBits binary64 4843621399236968448) (pos 6755399441055744)
 unfolding ofBits ValueIs
 shift-whole = record { value = refl }
+
+-- and the one that is written 1152921504606846976.0, which is 2^60
+pub dividend-whole : IsWhole (ofBits binary64 4877398396442247168) (pos 1152921504606846976)
+unfolding ofBits ValueIs
+dividend-whole = record { value = refl }

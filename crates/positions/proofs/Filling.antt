@@ -23,7 +23,7 @@ line-read l f g e = toZ-ofZ f ∙ e ∙ ap (lineAt l) (toZ-ofZ g)
 -- ---- one column more
 
 -- an entry more of a table
-set-next : (f : ℕ → ℤ) (from j : ℕ) (l : List ℤ) (t : ℤ) → j < length l → ((i : ℕ) → from ≤ i → i < j → getD l i (pos 0) ≡ f i) → t ≡ f j
+pub set-next : (f : ℕ → ℤ) (from j : ℕ) (l : List ℤ) (t : ℤ) → j < length l → ((i : ℕ) → from ≤ i → i < j → getD l i (pos 0) ≡ f i) → t ≡ f j
     → (i : ℕ) → from ≤ i → i < j + 1 → getD (set l j t) i (pos 0) ≡ f i
 set-next f from j l t inside before is i h k =
     let at-most : i ≤ j = omega (arith, k) in

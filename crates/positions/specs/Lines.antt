@@ -1,7 +1,7 @@
 -- Positions along a run: the numbers of its rays change evenly with the coordinate of the column.
 use mathlib.Core.Path.{_≡_}
 use mathlib.Core.List.{List}
-use Prim.Native.Nat.{ℕ, _≤_, _<_}
+use Prim.Native.Nat.{ℕ, _/_, _≤_, _<_}
 use lib.IntN.{ℤ, pos, natAbs, _+ℤ_, _*ℤ_}
 use lib.ListN.{getD}
 use Rattle.cubemap.specs.declared.Format.{Format}
@@ -44,3 +44,8 @@ pub record Positioned (format : Format) (A : ℕ) (across down distance : Line) 
       → getD columns j (pos 0) ≡ position64 format A (lineAt across (coordinateAt coordinates j)) (natAbs (lineAt distance (coordinateAt coordinates j)))
   pub row : (j : ℕ) → from ≤ j → j < to
       → getD rows j (pos 0) ≡ position64 format A (lineAt down (coordinateAt coordinates j)) (natAbs (lineAt distance (coordinateAt coordinates j)))
+
+-- the table has 2^60 / d, rounded down, of each column of a stretch
+pub record Reciprocals (distance : Line) (coordinates : List ℤ) (from to : ℕ) (table : List ℤ) : Type 0 where
+  pub reciprocal : (j : ℕ) → from ≤ j → j < to
+      → getD table j (pos 0) ≡ pos (1152921504606846976 / natAbs (lineAt distance (coordinateAt coordinates j)))

@@ -10,7 +10,7 @@ ghost use Rattle.arithmetic.specs.Doubles.{IsWhole};
 ghost use Rattle.positions.specs.Doubles.{CmpDoubles, WholeLine, IsAlong, numeratorLine, denominatorLine};
 ghost use Rattle.positions.specs.Near.{BentNear, AcpNear};
 ghost use Rattle.positions.specs.Ratios.{Ratio};
-ghost use Rattle.positions.specs.Lines.{lineAt, Even, Stretch, Positioned};
+ghost use Rattle.positions.specs.Lines.{lineAt, Even, Stretch, Positioned, Reciprocals};
 use cubemap::Format;
 
 // A number of the rays along a run: at + by·a where the coordinate of the column is a.
@@ -142,12 +142,22 @@ fn acp_first(size: u64, x: i64, d: u64) -> u64
     }
 }
 
-// 2^60 / d rounded down, once for each ray.
+// 2^60 / d rounded down, once for each ray. A division of doubles gives it or the next number; on many processors a division of 64-bit numbers takes some
+// times as long. Quotients that exceed 50 bits are found by that one.
 fn reciprocal(d: u64) -> u64
-    requires { ⌜ 0 < d ⌝ }
+    requires { ⌜ (0 < d) × (d ≤ 536870911) ⌝ }
     ensures { λ r. ⌜ r ≡ 1152921504606846976 / d ⌝ }
 {
-    1152921504606846976 / d
+    if d <= 1024 {
+        return 1152921504606846976 / d;
+    }
+    let near = f64::to_bits(1152921504606846976.0 / whole_double(d as i64) + 6755399441055744.0)
+        % 2251799813685248;
+    if near * d <= 1152921504606846976 {
+        near
+    } else {
+        near - 1
+    }
 }
 
 // Nearly equation 14's numerator, on a scale of 2^40 for each d²: k·(34d − 9k), with t / 2^28 in place of k / d.
@@ -206,7 +216,55 @@ fn line_at(l: Line, a: i64) -> i64
     l.at + a * l.by
 }
 
-// The positions of a stretch in ACP, column by column: one division for both of a ray's.
+// 2^60 / d of each column of a stretch. A loop of its own is short, so that the divisions of many columns are under way at once.
+fn reciprocals_along(
+    distance: Line,
+    coordinates: &[i64; 512],
+    from: u64,
+    to: u64,
+    reciprocals: &mut [i64; 512],
+)
+    requires { ⌜ ((A : ℕ) × (across : Line) × (down : Line) × Stretch A across down distance (now coordinates) from to) ⌝ }
+    requires { ⌜ length (now reciprocals) ≡ 512 ⌝ }
+    ensures { λ _. ⌜ Reciprocals distance (now (coordinates .entry)) from to (now (reciprocals .exit)) × (length (now (reciprocals .exit)) ≡ 512) ⌝ }
+{
+    let mut j = from;
+    while j < to {
+        let d = line_at(distance, coordinates[j as usize]) as u64;
+        reciprocals[j as usize] = reciprocal(d) as i64;
+        j += 1;
+    }
+}
+
+// The positions of a stretch in ACP, column by column. Each column's entry has its reciprocal until its position takes that place.
+fn acp_by_reciprocals(
+    size: u64,
+    across: Line,
+    down: Line,
+    distance: Line,
+    coordinates: &[i64; 512],
+    from: u64,
+    to: u64,
+    columns: &mut [i64; 512],
+    rows: &mut [i64; 512],
+)
+    requires { ⌜ Stretch size across down distance (now coordinates) from to × (length (now columns) ≡ 512) × (length (now rows) ≡ 512) ⌝ }
+    requires { ⌜ Reciprocals distance (now coordinates) from to (now columns) ⌝ }
+    ensures { λ _. ⌜ Positioned Format.Acp size across down distance (now (coordinates .entry)) from to (now (columns .exit)) (now (rows .exit))
+        × (length (now (columns .exit)) ≡ 512) × (length (now (rows .exit)) ≡ 512) ⌝ }
+{
+    let mut j = from;
+    while j < to {
+        let a = coordinates[j as usize];
+        let d = line_at(distance, a) as u64;
+        let r = columns[j as usize] as u64;
+        columns[j as usize] = acp_position(size, line_at(across, a), d, r);
+        rows[j as usize] = acp_position(size, line_at(down, a), d, r);
+        j += 1;
+    }
+}
+
+// The positions of a stretch in ACP: one division for both of a ray's.
 fn acp_along(
     size: u64,
     across: Line,
@@ -222,15 +280,18 @@ fn acp_along(
     ensures { λ _. ⌜ Positioned Format.Acp size across down distance (now (coordinates .entry)) from to (now (columns .exit)) (now (rows .exit))
         × (length (now (columns .exit)) ≡ 512) × (length (now (rows .exit)) ≡ 512) ⌝ }
 {
-    let mut j = from;
-    while j < to {
-        let a = coordinates[j as usize];
-        let d = line_at(distance, a) as u64;
-        let r = reciprocal(d);
-        columns[j as usize] = acp_position(size, line_at(across, a), d, r);
-        rows[j as usize] = acp_position(size, line_at(down, a), d, r);
-        j += 1;
-    }
+    reciprocals_along(distance, coordinates, from, to, columns);
+    acp_by_reciprocals(
+        size,
+        across,
+        down,
+        distance,
+        coordinates,
+        from,
+        to,
+        columns,
+        rows,
+    );
 }
 
 // The positions of a stretch, in either format.

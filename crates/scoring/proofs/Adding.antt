@@ -83,7 +83,11 @@ pub added-then : {A : ℕ} {f g : ℕ → ℕ} {before between after : List ℕ}
     → Added A (λ m. f m + g m) before after
 added-then {f = f} {g} {before} {between} a b = record { whole = b .whole; entry = λ m h. b .entry m h ∙ omega (arith, a .entry m h) }
 
--- what the sums are at most then
+-- a higher bound
+pub sums-within : {A B C : ℕ} {squares : List ℕ} → SumsTo A B squares → B ≤ C → SumsTo A C squares
+sums-within s h = record { whole = s .whole; most = λ m l. omega (arith, s .most m l) }
+
+-- what the sums are at most after an addition
 pub added-most : {A B C D : ℕ} {f : ℕ → ℕ} {before after : List ℕ} → SumsTo A B before → Added A f before after
     → ((m : ℕ) → m < A → f m ≤ C) → B + C ≤ D → SumsTo A D after
 added-most s a h d = record { whole = a .whole; most = λ m l. omega (arith, a .entry m l, s .most m l, h m l) }

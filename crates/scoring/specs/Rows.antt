@@ -56,7 +56,7 @@ pub record SumsTo (A B : ℕ) (squares : List ℕ) : Type 0 where
   pub whole : length squares ≡ 512
   pub most : (m : ℕ) → m < A → getD squares m 0 ≤ B
 
--- each sum can take another square: it stays within 32 bits
+-- each sum can take two more squares: it stays within 32 bits
 abbrev pub Room : ℕ → List ℕ → Type 0
 Room A squares = SumsTo A 2147483648 squares
 

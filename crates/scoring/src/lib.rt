@@ -2,6 +2,7 @@
 ghost use mathlib.Core.Path.{_≡_};
 ghost use mathlib.Core.Bool.{_&&_};
 ghost use Prim.Native.Nat.{ℕ, suc, _+_, _*_, _-_, _^_, _≤_, _<_};
+ghost use lib.Dec.{leb};
 ghost use lib.IntN.{pos, negsuc, natAbs};
 ghost use lib.ListN.{length, getD, set};
 ghost use Rattle.arithmetic.specs.Integers.{equalℤ};
@@ -13,7 +14,7 @@ ghost use Rattle.cubemap.specs.Score.{weightOf, difference, squaredDifference, 
 ghost use Rattle.cubemap.specs.Checks.{scoreSettings};
 ghost use Rattle.cubemap.specs.Outcomes.{scoredMeans, scoreResult};
 ghost use Rattle.cubemap.proofs.Weights.{lengthSquared};
-ghost use Rattle.indices.specs.Steps.{sampleBy};
+ghost use Rattle.indices.specs.Steps.{sampleBySteps, sampleBy};
 ghost use Rattle.view.specs.Views.{shown, frameOf};
 ghost use Rattle.scoring.specs.Comparing.{Comparable, sumsOf};
 ghost use Rattle.scoring.specs.Tests.{passing, TestOf, Bounds, IsMost};
@@ -239,6 +240,15 @@ fn add_square(squares: &mut [u32; 512], column: u64, x: u64, y: u64)
     squares[column as usize] += squared(x, y);
 }
 
+// Adds the squares of two differences.
+fn add_squares(squares: &mut [u32; 512], column: u64, x: u64, y: u64, z: u64, w: u64)
+    requires { ⌜ (column < 512) × (x < 4096) × (y < 4096) × (z < 4096) × (w < 4096) × (getD (now squares) column 0 ≤ 2147483648) ⌝ }
+    ensures { λ _. ⌜ now (squares .exit) ≡ set (now (squares .entry)) column
+        (getD (now (squares .entry)) column 0 + (squaredDifference x y + squaredDifference z w)) ⌝ }
+{
+    squares[column as usize] += squared(x, y) + squared(z, w);
+}
+
 // Adds the squares of a row of both frames to the sums of the columns. Each row is given from its first sample on.
 fn add_rows(size: u64, first: &[u8], second: &[u8], squares: &mut [u32; 512])
     requires { ⌜ (size ≤ 512) × ScoredRow size (now first) × ScoredRow size (now second) × Room size (now squares) ⌝ }
@@ -426,31 +436,123 @@ fn add_face(
     add_by_steps(size, first, first_steps, second, second_steps, row, squares)
 }
 
-// Adds the squares of a row of all six faces.
-fn add_faces(
+// Adds the squares of two rows of a face, each given from its first sample on in the first frame, and by the steps in the second. Where rows run down the
+// second frame, the two meet the same lines of it: one loop goes through those lines once.
+fn add_pairs(
     size: u64,
-    first: &[u8],
-    first_steps: &[i64; 18],
+    first_row: &[u8],
+    first_mirror: &[u8],
     second: &[u8],
-    second_steps: &[i64; 18],
+    second_steps: FaceSteps,
     row: u64,
+    mirror: u64,
     squares: &mut [u32; 512],
 )
-    requires { ⌜ ScoredPlane size (now first) (now «first_steps») × ScoredPlane size (now second) (now «second_steps») × (row < size) ⌝ }
-    requires { ⌜ SumsTo size 100614150 (now squares) ⌝ }
-    ensures { λ _. ⌜ Added size (facesSquares (now (first .entry)) (now («first_steps» .entry)) (now (second .entry)) (now («second_steps» .entry)) row)
+    requires { ⌜ ScoredRow size (now «first_row») × ScoredRow size (now «first_mirror») × ScoredFace size (now second) «second_steps» ⌝ }
+    requires { ⌜ (row < size) × (mirror < size) × Room size (now squares) ⌝ }
+    ensures { λ _. ⌜ Added size
+        (λ m. squaredDifference (sampleAt (now («first_row» .entry)) m) (sampleBySteps (now (second .entry)) «second_steps» m row)
+        + squaredDifference (sampleAt (now («first_mirror» .entry)) m) (sampleBySteps (now (second .entry)) «second_steps» m mirror))
         (now (squares .entry)) (now (squares .exit)) ⌝ }
 {
-    let mut face: u64 = 0;
-    while face < 6 {
-        let from = indices::steps_at(first_steps, face);
-        let to = indices::steps_at(second_steps, face);
-        add_face(size, first, from, second, to, row, squares);
-        face += 1;
+    let mut column: u64 = 0;
+    while column < size {
+        let x = frame::sample(first_row, column as usize);
+        let y = indices::sample_by_steps(second, size, second_steps, column, row);
+        let z = frame::sample(first_mirror, column as usize);
+        let w = indices::sample_by_steps(second, size, second_steps, column, mirror);
+        add_squares(squares, column, x, y, z, w);
+        column += 1;
     }
 }
 
-// The squares of a row and of its mirror, the opposite row; of the one row where they are the same.
+// Adds the squares of two rows of a face that lie unbroken in the first frame: their samples are handed on as parts of its plane.
+fn add_beside(
+    size: u64,
+    first: &[u8],
+    first_steps: FaceSteps,
+    second: &[u8],
+    second_steps: FaceSteps,
+    row: u64,
+    mirror: u64,
+    squares: &mut [u32; 512],
+)
+    requires { ⌜ ScoredFace size (now first) «first_steps» × ScoredFace size (now second) «second_steps» ⌝ }
+    requires { ⌜ (row < size) × (mirror < size) × Room size (now squares) × («first_steps» .across ≡ pos 1) ⌝ }
+    ensures { λ _. ⌜ Added size (λ m. faceSquares (now (first .entry)) «first_steps» (now (second .entry)) «second_steps» row m
+        + faceSquares (now (first .entry)) «first_steps» (now (second .entry)) «second_steps» mirror m)
+        (now (squares .entry)) (now (squares .exit)) ⌝ }
+{
+    let length = 2 * (size as usize);
+    let row_from = 2 * (indices::step_to(first_steps, 0, row) as usize);
+    let row_to = row_from + length;
+    let mirror_from = 2 * (indices::step_to(first_steps, 0, mirror) as usize);
+    let mirror_to = mirror_from + length;
+    add_pairs(
+        size,
+        &first[row_from..row_to],
+        &first[mirror_from..mirror_to],
+        second,
+        second_steps,
+        row,
+        mirror,
+        squares,
+    )
+}
+
+// Does a row of a face run from left to right in the first frame, and down or up in the second?
+fn crosses(first: FaceSteps, second: FaceSteps) -> bool
+    ensures { λ r. ⌜ r ≡ (equalℤ (first .across) (pos 1) && leb 2 (natAbs (second .across))) ⌝ }
+{
+    let across = first.across;
+    let length = arithmetic::magnitude(second.across);
+    (across == 1) & (2 <= length)
+}
+
+// Adds the squares of a row of a face and of its mirror, the opposite row; of the one row where they are the same.
+fn add_both(
+    size: u64,
+    first: &[u8],
+    first_steps: FaceSteps,
+    second: &[u8],
+    second_steps: FaceSteps,
+    row: u64,
+    mirror: u64,
+    squares: &mut [u32; 512],
+)
+    requires { ⌜ ScoredFace size (now first) «first_steps» × ScoredFace size (now second) «second_steps» ⌝ }
+    requires { ⌜ (row < size) × (mirror < size) × SumsTo size 201228300 (now squares) ⌝ }
+    ensures { λ _. ⌜ Added size (λ m. bothTerms (λ n. faceSquares (now (first .entry)) «first_steps» (now (second .entry)) «second_steps» n m) row mirror)
+        (now (squares .entry)) (now (squares .exit)) ⌝ }
+{
+    if mirror <= row {
+        return add_face(size, first, first_steps, second, second_steps, row, squares);
+    }
+    if crosses(first_steps, second_steps) {
+        return add_beside(
+            size,
+            first,
+            first_steps,
+            second,
+            second_steps,
+            row,
+            mirror,
+            squares,
+        );
+    }
+    add_face(size, first, first_steps, second, second_steps, row, squares);
+    add_face(
+        size,
+        first,
+        first_steps,
+        second,
+        second_steps,
+        mirror,
+        squares,
+    )
+}
+
+// The squares of a row of all six faces and of its mirror, the opposite row; of the one row where they are the same.
 fn squares_of(
     size: u64,
     first: &[u8],
@@ -466,25 +568,12 @@ fn squares_of(
         (now («second_steps» .entry)) n m) row mirror) r ⌝ }
 {
     let mut squares = [0; 512];
-    add_faces(
-        size,
-        first,
-        first_steps,
-        second,
-        second_steps,
-        row,
-        &mut squares,
-    );
-    if row < mirror {
-        add_faces(
-            size,
-            first,
-            first_steps,
-            second,
-            second_steps,
-            mirror,
-            &mut squares,
-        );
+    let mut face: u64 = 0;
+    while face < 6 {
+        let from = indices::steps_at(first_steps, face);
+        let to = indices::steps_at(second_steps, face);
+        add_both(size, first, from, second, to, row, mirror, &mut squares);
+        face += 1;
     }
     squares
 }
