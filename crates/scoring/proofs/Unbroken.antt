@@ -1,5 +1,6 @@
 -- A row that lies unbroken in a plane, from left to right or back: the part of the plane that it is.
 use mathlib.Core.Path.{_≡_, refl, sym, _∙_, ap, subst}
+use mathlib.Core.Bool.{Bool, true, false, cond}
 use mathlib.Core.List.{List, [], _∷_}
 use Prim.Native.Nat.{ℕ, suc, _+_, _*_, _-_, _≤_, _<_}
 use native.Mathlib.Omega.{arith}
@@ -14,7 +15,7 @@ use Rattle.cubemap.proofs.Framed.{sample-part}
 use Rattle.indices.specs.declared.FaceSteps.{FaceSteps}
 use Rattle.indices.specs.Steps.{stepped, Steps, sampleBySteps}
 use Rattle.indices.proofs.Stepping.{plane-small, steps-unbroken}
-use Rattle.scoring.specs.Rows.{ScoredFace, ScoredRow}
+use Rattle.scoring.specs.Rows.{ScoredFace, ScoredRow, placeIn}
 use Rattle.scoring.proofs.Planes.{sample-small}
 
 -- ---- the order of the columns in the part
@@ -69,6 +70,12 @@ module _ {A n from : ℕ} {plane : List ℕ} {s : FaceSteps} (f : ScoredFace A p
     where
       last : (m : ℕ) → m < A → m + (A - suc m) ≡ A - 1
       last m l = omega arith
+
+  -- either way: the part begins where its column of place 0 lies
+  pub either-way : (back : Bool) → s .across ≡ cond back (negsuc 0) (pos 1) → from ≡ natural (stepped s (placeIn A back 0) n)
+      → Unbroken A n from plane s (placeIn A back)
+  either-way true e r = behind e r
+  either-way false e r = ahead e r
 
 -- ---- the part
 

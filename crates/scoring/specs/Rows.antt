@@ -1,7 +1,8 @@
 -- What a score is summed from, row by row.
 use mathlib.Core.Path.{_≡_}
+use mathlib.Core.Bool.{Bool, cond}
 use mathlib.Core.List.{List}
-use Prim.Native.Nat.{ℕ, _+_, _*_, _≤_, _<_}
+use Prim.Native.Nat.{ℕ, suc, _+_, _*_, _-_, _≤_, _<_}
 use lib.IntN.{ℤ}
 use lib.ListN.{length, getD}
 use Rattle.arithmetic.specs.Sums.{sumBelow}
@@ -50,6 +51,10 @@ facesSquares first s second t n m = sumBelow (λ f. faceSquares first (stepsIn s
 pub record ScoredRow (A : ℕ) (row : List ℕ) : Type 0 where
   pub long : 2 * A ≤ length row
   pub within : (m : ℕ) → m < A → sampleAt row m < 4096
+
+-- where column m stands in them: they are given from the first on, or from the last back
+abbrev pub placeIn : ℕ → Bool → ℕ → ℕ
+placeIn A back m = cond back (A - suc m) m
 
 -- a table with a sum of at most B for each column
 pub record SumsTo (A B : ℕ) (squares : List ℕ) : Type 0 where

@@ -1,6 +1,6 @@
 // Score: questions 1, 3, 4, 5 and 8 to 11 in order, and then the two sums.
 ghost use mathlib.Core.Path.{_≡_};
-ghost use mathlib.Core.Bool.{_&&_};
+ghost use mathlib.Core.Bool.{_&&_, cond};
 ghost use Prim.Native.Nat.{ℕ, suc, _+_, _*_, _-_, _^_, _≤_, _<_};
 ghost use lib.Dec.{leb};
 ghost use lib.IntN.{pos, negsuc, natAbs};
@@ -19,7 +19,7 @@ ghost use Rattle.view.specs.Views.{shown, frameOf};
 ghost use Rattle.scoring.specs.Comparing.{Comparable, sumsOf};
 ghost use Rattle.scoring.specs.Tests.{passing, TestOf, Bounds, IsMost};
 ghost use Rattle.scoring.specs.Rows.{Weighed, ScoredFace, ScoredPlane, ScoredRow, facesError};
-ghost use Rattle.scoring.specs.Rows.{faceSquares, facesSquares, SumsTo, Room, Added, Squares};
+ghost use Rattle.scoring.specs.Rows.{faceSquares, facesSquares, placeIn, SumsTo, Room, Added, Squares};
 use cubemap::Layout;
 use cubemap::Refusal;
 use cubemap::Scored;
@@ -436,10 +436,22 @@ fn add_face(
     add_by_steps(size, first, first_steps, second, second_steps, row, squares)
 }
 
-// Adds the squares of two rows of a face, each given from its first sample on in the first frame, and by the steps in the second. Where rows run down the
-// second frame, the two meet the same lines of it: one loop goes through those lines once.
+// Where a column stands in a row that is given from its first sample on, or from its last one back.
+fn place_in(size: u64, back: bool, column: u64) -> u64
+    requires { ⌜ column < size ⌝ }
+    ensures { λ r. ⌜ (r ≡ placeIn size back column) × (r < size) ⌝ }
+{
+    if back {
+        return size - 1 - column;
+    }
+    column
+}
+
+// Adds the squares of two rows of a face, given in the first frame from their first samples on or from their last ones back, and by the steps in the second.
+// Where rows run down the second frame, the two meet the same lines of it: one loop goes through those lines once.
 fn add_pairs(
     size: u64,
+    back: bool,
     first_row: &[u8],
     first_mirror: &[u8],
     second: &[u8],
@@ -451,24 +463,26 @@ fn add_pairs(
     requires { ⌜ ScoredRow size (now «first_row») × ScoredRow size (now «first_mirror») × ScoredFace size (now second) «second_steps» ⌝ }
     requires { ⌜ (row < size) × (mirror < size) × Room size (now squares) ⌝ }
     ensures { λ _. ⌜ Added size
-        (λ m. squaredDifference (sampleAt (now («first_row» .entry)) m) (sampleBySteps (now (second .entry)) «second_steps» m row)
-        + squaredDifference (sampleAt (now («first_mirror» .entry)) m) (sampleBySteps (now (second .entry)) «second_steps» m mirror))
+        (λ m. squaredDifference (sampleAt (now («first_row» .entry)) (placeIn size back m)) (sampleBySteps (now (second .entry)) «second_steps» m row)
+        + squaredDifference (sampleAt (now («first_mirror» .entry)) (placeIn size back m)) (sampleBySteps (now (second .entry)) «second_steps» m mirror))
         (now (squares .entry)) (now (squares .exit)) ⌝ }
 {
     let mut column: u64 = 0;
     while column < size {
-        let x = frame::sample(first_row, column as usize);
+        let at = place_in(size, back, column) as usize;
+        let x = frame::sample(first_row, at);
         let y = indices::sample_by_steps(second, size, second_steps, column, row);
-        let z = frame::sample(first_mirror, column as usize);
+        let z = frame::sample(first_mirror, at);
         let w = indices::sample_by_steps(second, size, second_steps, column, mirror);
         add_squares(squares, column, x, y, z, w);
         column += 1;
     }
 }
 
-// Adds the squares of two rows of a face that lie unbroken in the first frame: their samples are handed on as parts of its plane.
+// Adds the squares of two rows of a face that lie unbroken in the first frame, from left to right or back: their samples are handed on as parts of its plane.
 fn add_beside(
     size: u64,
+    back: bool,
     first: &[u8],
     first_steps: FaceSteps,
     second: &[u8],
@@ -478,18 +492,20 @@ fn add_beside(
     squares: &mut [u32; 512],
 )
     requires { ⌜ ScoredFace size (now first) «first_steps» × ScoredFace size (now second) «second_steps» ⌝ }
-    requires { ⌜ (row < size) × (mirror < size) × Room size (now squares) × («first_steps» .across ≡ pos 1) ⌝ }
+    requires { ⌜ (row < size) × (mirror < size) × Room size (now squares) × («first_steps» .across ≡ cond back (negsuc 0) (pos 1)) ⌝ }
     ensures { λ _. ⌜ Added size (λ m. faceSquares (now (first .entry)) «first_steps» (now (second .entry)) «second_steps» row m
         + faceSquares (now (first .entry)) «first_steps» (now (second .entry)) «second_steps» mirror m)
         (now (squares .entry)) (now (squares .exit)) ⌝ }
 {
     let length = 2 * (size as usize);
-    let row_from = 2 * (indices::step_to(first_steps, 0, row) as usize);
+    let end = place_in(size, back, 0);
+    let row_from = 2 * (indices::step_to(first_steps, end, row) as usize);
     let row_to = row_from + length;
-    let mirror_from = 2 * (indices::step_to(first_steps, 0, mirror) as usize);
+    let mirror_from = 2 * (indices::step_to(first_steps, end, mirror) as usize);
     let mirror_to = mirror_from + length;
     add_pairs(
         size,
+        back,
         &first[row_from..row_to],
         &first[mirror_from..mirror_to],
         second,
@@ -500,13 +516,13 @@ fn add_beside(
     )
 }
 
-// Does a row of a face run from left to right in the first frame, and down or up in the second?
-fn crosses(first: FaceSteps, second: FaceSteps) -> bool
-    ensures { λ r. ⌜ r ≡ (equalℤ (first .across) (pos 1) && leb 2 (natAbs (second .across))) ⌝ }
+// Does a row of a face run by this step in the first frame, and down or up in the second?
+fn crosses(first: FaceSteps, step: i64, second: FaceSteps) -> bool
+    ensures { λ r. ⌜ r ≡ (equalℤ (first .across) step && leb 2 (natAbs (second .across))) ⌝ }
 {
     let across = first.across;
     let length = arithmetic::magnitude(second.across);
-    (across == 1) & (2 <= length)
+    (across == step) & (2 <= length)
 }
 
 // Adds the squares of a row of a face and of its mirror, the opposite row; of the one row where they are the same.
@@ -528,9 +544,23 @@ fn add_both(
     if mirror <= row {
         return add_face(size, first, first_steps, second, second_steps, row, squares);
     }
-    if crosses(first_steps, second_steps) {
+    if crosses(first_steps, 1, second_steps) {
         return add_beside(
             size,
+            false,
+            first,
+            first_steps,
+            second,
+            second_steps,
+            row,
+            mirror,
+            squares,
+        );
+    }
+    if crosses(first_steps, 0 - 1, second_steps) {
+        return add_beside(
+            size,
+            true,
             first,
             first_steps,
             second,

@@ -1,52 +1,60 @@
--- `add_beside` meets its contract: where a step across is 1 both rows lie unbroken, so their parts of the plane have all their samples.
-use mathlib.Core.Path.{ap, ap₂}
-use Prim.Native.Nat.{ℕ, _+_, _<_}
+-- `add_beside` meets its contract: where a step across is 1 or −1 both rows lie unbroken, so their parts of the plane have all their samples.
+use mathlib.Core.Path.{_≡_, _∙_, ap, ap₂}
+use Prim.Native.Nat.{ℕ, _+_}
 use native.Mathlib.Omega.{arith}
 use borrow.Author.Needs.{needs}
+use Rattle.arithmetic.specs.Integers.{natural}
 use Rattle.cubemap.specs.Score.{squaredDifference}
-use Rattle.indices.specs.Steps.{sampleBySteps}
+use Rattle.indices.specs.Steps.{stepped, sampleBySteps}
 use Rattle.indices.proofs.Stepping.{not-negative}
+use Rattle.scoring.specs.Rows.{placeIn}
 use Rattle.scoring.proofs.Adding.{added-cong}
-use Rattle.scoring.proofs.Unbroken.{Unbroken, ahead, ends-small, ends-within, part-sample, part-scored}
+use Rattle.scoring.proofs.Unbroken.{Unbroken, either-way, ends-small, ends-within, part-sample, part-scored}
 use Rattle.scoring.proofs.add_beside.Statement.{statement}
 use Rattle.scoring.proofs.add_beside.Tie as tie
 
-module _ (c : tie.After-step-to) where
-  abbrev start : tie.Start
-  start = c .before .before .before
+abbrev start : tie.After-place-in → tie.Start
+start c = c .before .before .before
 
-  abbrev A : ℕ
-  A = start .args .size
+-- where a row begins that is found by its end
+begins : (c : tie.After-place-in) {from : ℕ} (n : ℕ) → let a = start c .args in from ≡ natural (stepped (a .first-steps) (c .place-in .result) n)
+    → from ≡ natural (stepped (a .first-steps) (placeIn (a .size) (a .back) 0) n)
+begins c n e = let a = start c .args in e ∙ ap (λ m. natural (stepped (a .first-steps) m n)) (c .place-in .ensures .0)
 
-  -- the row in the first frame
-  row : Unbroken A (start .args .row) (c .step-to .result) (start .args .first .now) (start .args .first-steps) (λ m. m)
-  row = ahead (start .pre .0 .0) (start .pre .1 .0) (start .pre .1 .3) (c .step-to .ensures)
+-- the row in the first frame
+row : (c : tie.After-step-to) → let a = start (c .before) .args in
+    Unbroken (a .size) (a .row) (c .step-to .result) (a .first .now) (a .first-steps) (placeIn (a .size) (a .back))
+row c =
+    let s : tie.Start = start (c .before) in
+    either-way (s .pre .0 .0) (s .pre .1 .0) (s .args .back) (s .pre .1 .3) (begins (c .before) (s .args .row) (c .step-to .ensures))
 
 -- and its mirror
-module _ (c : tie.After-step-to2) where
-  abbrev mirror-start : tie.Start
-  mirror-start = start (c .before)
-
-  mirror : Unbroken (A (c .before)) (mirror-start .args .mirror) (c .step-to2 .result) (mirror-start .args .first .now) (mirror-start .args .first-steps)
-      (λ m. m)
-  mirror = ahead (mirror-start .pre .0 .0) (mirror-start .pre .1 .1) (mirror-start .pre .1 .3) (c .step-to2 .ensures)
+mirror : (c : tie.After-step-to2) → let a = start (c .before .before) .args in
+    Unbroken (a .size) (a .mirror) (c .step-to2 .result) (a .first .now) (a .first-steps) (placeIn (a .size) (a .back))
+mirror c =
+    let s : tie.Start = start (c .before .before) in
+    either-way (s .pre .0 .0) (s .pre .1 .1) (s .args .back) (s .pre .1 .3) (begins (c .before .before) (s .args .mirror) (c .step-to2 .ensures))
 
 mul-length : tie.Need-mul-length
 mul-length c = search needs
 
+place-in-requires : tie.Need-place-in-requires
+place-in-requires c κs = omega arith
+
+-- the end is a column
 step-to-requires : tie.Need-step-to-requires
 step-to-requires c κs =
-    let s : tie.Start = c .before .before in
-    let f = s .pre .0 .0 .stepped in
-    let inside : 0 < s .args .size = omega arith in
-    ((f .leads .base-small, f .leads .across-small, f .leads .down-small), (omega (arith, f .size-most), omega (arith, f .size-most), not-negative (f .leads) _ _ inside (s .pre .1 .0)))
+    let p = start c .pre in
+    let f = p .0 .0 .stepped in
+    let end = c .place-in .ensures .1 in
+    ((f .leads .base-small, f .leads .across-small, f .leads .down-small), (omega (arith, f .size-most), omega (arith, f .size-most), not-negative (f .leads) _ _ end (p .1 .0)))
 
 step-to-requires-2 : tie.Need-step-to-requires-2
 step-to-requires-2 c κs =
-    let s : tie.Start = c .before .before .before in
-    let f = s .pre .0 .0 .stepped in
-    let inside : 0 < s .args .size = omega arith in
-    ((f .leads .base-small, f .leads .across-small, f .leads .down-small), (omega (arith, f .size-most), omega (arith, f .size-most), not-negative (f .leads) _ _ inside (s .pre .1 .1)))
+    let p = start (c .before) .pre in
+    let f = p .0 .0 .stepped in
+    let end = c .before .place-in .ensures .1 in
+    ((f .leads .base-small, f .leads .across-small, f .leads .down-small), (omega (arith, f .size-most), omega (arith, f .size-most), not-negative (f .leads) _ _ end (p .1 .1)))
 
 mul-row-from : tie.Need-mul-row-from
 mul-row-from c = omega (arith, ends-small (row c))
@@ -81,13 +89,13 @@ part-add-pairs-end-2 c = omega (arith, ends-within (mirror (c .before)))
 add-pairs-requires : tie.Need-add-pairs-requires
 add-pairs-requires c κs =
     let t : tie.After-step-to2 = c .before .before .before in
-    let p = mirror-start t .pre in
+    let p = start (t .before .before) .pre in
     ((part-scored (row (t .before)), part-scored (mirror t), p .0 .1), (p .1 .0, p .1 .1, p .1 .2))
 
 returns : tie.Need-returns
 returns c =
     let t : tie.After-step-to2 = c .before .before .before .before in
-    let a = mirror-start t .args in
+    let a = start (t .before .before) .args in
     added-cong (c .add-pairs .ensures) (λ m h. ap₂ _+_
     (ap (λ x. squaredDifference x (sampleBySteps (a .second .now) (a .second-steps) m (a .row))) (part-sample (row (t .before)) m h))
     (ap (λ z. squaredDifference z (sampleBySteps (a .second .now) (a .second-steps) m (a .mirror))) (part-sample (mirror t) m h)))
@@ -97,6 +105,7 @@ add-beside-spec =
     tie.close
     (tie.spec
     mul-length
+    place-in-requires
     step-to-requires
     mul-row-from
     add-row-to

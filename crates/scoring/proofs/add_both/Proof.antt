@@ -1,9 +1,10 @@
 -- `add_both` meets its contract: each way has it.
 use mathlib.Core.Path.{_≡_, sym, _∙_}
+use mathlib.Core.Bool.{true, _&&_}
 use Prim.Native.Nat.{ℕ, _+_}
 use native.Mathlib.Omega.{arith}
 use lib.Dec.{leb}
-use lib.IntN.{ℤ, pos, natAbs}
+use lib.IntN.{ℤ, pos, negsuc, natAbs}
 use borrow.Author.Needs.{needs}
 use Rattle.arithmetic.specs.Integers.{equalℤ}
 use Rattle.arithmetic.specs.Sums.{bothTerms}
@@ -29,6 +30,10 @@ both : (c : tie.Else1) (m : ℕ) → let s : tie.Start = start c in
     term s m (s .args .row) + term s m (s .args .mirror) ≡ bothTerms (term s m) (s .args .row) (s .args .mirror)
 both c m = let s : tie.Start = start c in both-apart (term s m) (s .args .row) (s .args .mirror) (omega arith)
 
+-- the row goes by this step in the first frame
+runs : (x w y : ℤ) → (equalℤ x w && leb 2 (natAbs y)) ≡ true → x ≡ w
+runs x w y e = equalℤ→eq x w (and-left (equalℤ x w) (leb 2 (natAbs y)) (passes e))
+
 add-face-requires : tie.Need-add-face-requires
 add-face-requires c κs =
     let p = c .before .before .before .before .pre in
@@ -47,22 +52,37 @@ add-beside-requires c κs =
     let t : tie.After-crosses = c .before .before in
     let s : tie.Start = start (t .before) in
     let p = s .pre in
-    let x : ℤ = s .args .first-steps .across in
-    let y : ℤ = s .args .second-steps .across in
-    let ahead = and-left (equalℤ x (pos 1)) (leb 2 (natAbs y)) (passes (sym (t .crosses .ensures) ∙ c .before .if2 .taken)) in
-    (p .0, (p .1 .0, p .1 .1, sums-within (p .1 .2) (omega arith), equalℤ→eq x (pos 1) ahead))
+    let step = runs (s .args .first-steps .across) (pos 1) (s .args .second-steps .across) (sym (t .crosses .ensures) ∙ c .before .if2 .taken) in
+    (p .0, (p .1 .0, p .1 .1, sums-within (p .1 .2) (omega arith), step))
 
 returns-2 : tie.Need-returns-2
 returns-2 c = added-cong (c .add-beside .ensures) (λ m h. both (c .before .before .before .before) m)
 
+sub-crosses : tie.Need-sub-crosses
+sub-crosses c = search needs
+
+crosses-requires-2 : tie.Need-crosses-requires-2
+crosses-requires-2 c κs = search needs
+
+add-beside-requires-2 : tie.Need-add-beside-requires-2
+add-beside-requires-2 c κs =
+    let t : tie.After-crosses2 = c .before .before in
+    let s : tie.Start = start (t .before .before .before) in
+    let p = s .pre in
+    let step = runs (s .args .first-steps .across) (negsuc 0) (s .args .second-steps .across) (sym (t .crosses2 .ensures) ∙ c .before .if3 .taken) in
+    (p .0, (p .1 .0, p .1 .1, sums-within (p .1 .2) (omega arith), step))
+
+returns-3 : tie.Need-returns-3
+returns-3 c = added-cong (c .add-beside2 .ensures) (λ m h. both (c .before .before .before .before .before .before) m)
+
 add-face-requires-2 : tie.Need-add-face-requires-2
 add-face-requires-2 c κs =
-    let p = start (c .before .before .before) .pre in
+    let p = start (c .before .before .before .before .before) .pre in
     (p .0 .0, p .0 .1, p .1 .0, sums-within (p .1 .2) (omega arith))
 
 add-face-requires-3 : tie.Need-add-face-requires-3
 add-face-requires-3 c κs =
-    let p = start (c .before .before .before .before .before) .pre in (
+    let p = start (c .before .before .before .before .before .before .before) .pre in (
       p .0 .0,
       p .0 .1,
       p .1 .1,
@@ -70,10 +90,10 @@ add-face-requires-3 c κs =
           (λ m h. squared-small _ _ (sample-small (p .0 .0) m _ h (p .1 .0)) (sample-small (p .0 .1) m _ h (p .1 .0))) (omega arith),
     )
 
-returns-3 : tie.Need-returns-3
-returns-3 c =
+returns-4 : tie.Need-returns-4
+returns-4 c =
     added-cong (added-then (c .before .before .add-face2 .ensures) (c .add-face3 .ensures))
-    (λ m h. both (c .before .before .before .before .before .before) m)
+    (λ m h. both (c .before .before .before .before .before .before .before .before) m)
 
 pub add-both-spec : {M : Type 1} → statement M
 add-both-spec =
@@ -84,6 +104,10 @@ add-both-spec =
     crosses-requires
     add-beside-requires
     returns-2
+    sub-crosses
+    crosses-requires-2
+    add-beside-requires-2
+    returns-3
     add-face-requires-2
     add-face-requires-3
-    returns-3)
+    returns-4)

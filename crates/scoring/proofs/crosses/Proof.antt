@@ -2,7 +2,7 @@
 use mathlib.Core.Path.{_∙_, ap}
 use mathlib.Core.Bool.{_&&_}
 use lib.Dec.{leb}
-use lib.IntN.{pos, natAbs}
+use lib.IntN.{natAbs}
 use mir.Facts.{toZ-ofZ}
 use borrow.Author.Needs.{needs}
 use Rattle.arithmetic.proofs.Held.{bits-equal}
@@ -15,7 +15,7 @@ magnitude-requires c κs = search needs
 returns : tie.Need-returns
 returns c =
     let a = c .before .before .before .args in
-    λ i. bits-equal (a .first .across) (pos 1) (search needs) (search needs) i
+    λ i. bits-equal (a .first .across) (a .step) (search needs) (search needs) i
     && leb 2 ((c .magnitude .ensures ∙ ap natAbs (toZ-ofZ {z = a .second .across} (search needs))) i)
 
 pub crosses-spec : {M : Type 1} → statement M
