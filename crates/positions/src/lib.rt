@@ -1,5 +1,5 @@
-// T of a ratio: where x / d of the way from the middle of a face to its edge lies, in 64ths of a sample. CMP takes one division of doubles, ACP one of whole numbers for both
-// numbers of a ray.
+// T of a ratio: where x / d of the way from the middle of a face to its edge lies, in 64ths of a sample; of one ratio, and of those of all rays along a
+// stretch. CMP takes one division for each, ACP one for both of a ray.
 ghost use mathlib.Core.Path.{_≡_};
 ghost use Prim.Native.Nat.{ℕ, _/_, _≤_, _<_};
 ghost use lib.IntN.{ℤ, pos, natAbs, _+ℤ_, _*ℤ_};

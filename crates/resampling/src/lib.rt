@@ -1,5 +1,6 @@
 // From the plane of a source to the plane of a target. The target is written in the order of its indices, run after run: a run is a row of a
-// slot. Along it the rotated ray moves by a multiple of one axis, so the matrix is applied twice a run and not to every ray.
+// slot. Along it the rotated ray moves by a multiple of one axis, so the matrix is applied twice a run and not to every ray. A run is cut into stretches
+// whose rays meet one face of the source: first their positions are found, then their samples.
 ghost use mathlib.Core.Path.{_≡_};
 ghost use Prim.Native.Nat.{_+_, _*_, _-_, _≤_, _<_};
 ghost use lib.Dec.{T};

@@ -1,4 +1,4 @@
-// The two samplers: the value at a position of a face, nearest or cubic.
+// The two samplers: the value at a position of a face, nearest or cubic, and along a stretch of positions of one face.
 ghost use mathlib.Core.Path.{_≡_};
 ghost use Prim.Native.Nat.{_+_, _*_, _-_, _^_, _≤_, _<_};
 ghost use lib.Dec.{T};
