@@ -7,7 +7,7 @@ use native.Mathlib.Decide.{ℕ-discrete, decLt}
 use native.Mathlib.Nat.{eq-or-lt-of-le}
 use native.Mathlib.Numerals.{add-one}
 use native.Mathlib.Omega.{arith}
-use lib.Dec.{T}
+use lib.Dec.{T, T-not}
 use Rattle.arithmetic.specs.Searches.{largest, lowestFrom, lowest, allBelow}
 use Rattle.arithmetic.proofs.Tests.{and-left, and-right, and-both, passes, fails, same-test}
 
@@ -210,3 +210,43 @@ all-fails test n i h e = same-test (allBelow test n) false (λ t. fails e (all-a
 pub all-pass : {test : ℕ → Bool} {n i : ℕ} → Asked test true n i → n ≤ i → allBelow test n ≡ true
 all-pass {test} {n} {i} a h =
     same-test (allBelow test n) true (λ t. tt) (λ t. all-of test n (λ j l. passes (a .each j (omega arith))))
+
+-- ---- a search looks at no number behind the one where it ends
+
+-- two tests say no to the same number first, or to none
+pub record SameFirst (f g : ℕ → Bool) (n : ℕ) : Type 0 where
+  pub all-same : allBelow f n ≡ allBelow g n
+  pub lowest-same : lowest (λ i. not (f i)) n ≡ lowest (λ i. not (g i)) n
+
+-- so do tests that agree up to the first number to which one of them says no
+pub first-decides : (f g : ℕ → Bool) (n : ℕ) → ((i : ℕ) → i ≤ lowest (λ i. not (f i)) n → f i ≡ g i) → SameFirst f g n
+first-decides f g n h = go (allBelow f n) refl
+  where
+    r : ℕ
+    r = lowest (λ i. not (f i)) n
+
+    go : (b : Bool) → allBelow f n ≡ b → SameFirst f g n
+    go true e = record { all-same = all-cong f g n same; lowest-same = lowest-cong (λ i. not (f i)) (λ i. not (g i)) n (λ i l. ap not (same i l)) }
+      where
+        pass : (i : ℕ) → i < n → not (f i) ≡ false
+        pass i l = same-test (not (f i)) false (λ t. T-not (f i) t (all-at f n (passes e) i l)) (λ t. absurd t)
+
+        same : (i : ℕ) → i < n → f i ≡ g i
+        same i l = h i (omega (arith, lowest-none {test = λ i. not (f i)} {n = n} {i = n} (record { bounded = omega arith; each = pass }) (omega arith)))
+    go false e = record { all-same = e ∙ sym (all-fails g n r (w .below) no); lowest-same = sym (lowest-here before (w .below) (ap not no)) }
+      where
+        w : Lowest (λ i. not (f i)) n r
+        w = not-all f n (fails e)
+
+        no : g r ≡ false
+        no = sym (h r (omega arith)) ∙ same-test (f r) false (λ t. T-not (f r) (w .holds) t) (λ t. absurd t)
+
+        agrees : (j : ℕ) → j < r → not (g j) ≡ false
+        agrees j l = same-test (not (g j)) false
+            (λ t. absurd (before-first j l (w .least j (subst (λ b. T (not b)) (sym (h j (omega arith))) t)))) (λ t. absurd t)
+          where
+            before-first : (j : ℕ) → j < r → r ≤ j → ⊥
+            before-first j l m = absurd (omega arith)
+
+        before : Asked (λ i. not (g i)) false n r
+        before = record { bounded = omega (arith, w .below); each = agrees }

@@ -1,17 +1,20 @@
--- A conversion at one place: where it reads, that look-up answers with the very same position, that its value is within the depth, that a nonzero
--- multiple of a rotation reads the same, that a cube rotation leads from each place to one, and that a frame of the same shape then gets the sample there.
-use mathlib.Core.Path.{_≡_, refl, sym, _∙_, ap}
+-- A conversion at one place: where it reads, that look-up answers with the very same position, that its value is within the depth, that the value
+-- stands there in the target and which samples decide it, that a nonzero multiple of a rotation reads the same, that a cube rotation leads from each
+-- place to one, and that a frame of the same shape then gets the sample there.
+use mathlib.Core.Path.{_≡_, refl, sym, _∙_, ap, subst}
 use mathlib.Core.List.{List}
 use Prim.Native.Nat.{ℕ, _*_, _^_, _≤_, _<_}
 use native.Mathlib.Nat.{mul-pos}
 use lib.Dec.{T}
+use lib.ListN.{length}
 use lib.IntN.{ℤ, natAbs}
+use Rattle.arithmetic.proofs.Tests.{cond-true}
 use Rattle.cubemap.specs.declared.Format.{Format}
 use Rattle.cubemap.specs.declared.Place.{Place}
 use Rattle.cubemap.specs.declared.Ray.{Ray}
 use Rattle.cubemap.specs.declared.Rotation.{Rotation}
 use Rattle.cubemap.specs.declared.Shape.{Shape}
-use Rattle.cubemap.specs.Interface.{formatOf, samplerOf, accepted}
+use Rattle.cubemap.specs.Interface.{formatOf, samplerOf, Answer, accepted, isAccepted}
 use Rattle.cubemap.specs.Frames.{IsPlace, planeSamples, sampleAtPlace, planeOf}
 use Rattle.cubemap.specs.PlaceToRay.{times, rayOf, rayIn}
 use Rattle.cubemap.specs.Rotations.{sumOfSquares, rotated}
@@ -19,12 +22,13 @@ use Rattle.cubemap.specs.RayToPlace.{locate}
 use Rattle.cubemap.specs.Samplers.{sampleFrom}
 use Rattle.cubemap.specs.Checks.{ConvertSettings, targetShape, samplesOK}
 use Rattle.cubemap.specs.Outcomes.{result, ifAccepted, lookUpValues, lookUpResult}
-use Rattle.cubemap.specs.Outcomes.{sourcePosition, valueAt, convertedSample, convertedBytes}
+use Rattle.cubemap.specs.Outcomes.{sourcePosition, valueAt, convertedSample, convertedBytes, convertAnswer, convertOutcome}
 use Rattle.cubemap.proofs.Locate.{OnFace, locate-on-face, locate-times, middleOf, locate-own-times, ray-apart}
 use Rattle.cubemap.proofs.Layouts.{LayoutHolds, layout-holds}
-use Rattle.cubemap.proofs.Framed.{plane-bytes, place-below}
-use Rattle.cubemap.proofs.Passed.{size-range, ConvertPassed, look-up-accepted}
-use Rattle.cubemap.proofs.Samplers.{value-within, value-own}
+use Rattle.cubemap.proofs.Framed.{plane-bytes, place-below, sample-planeOf, depth-fits}
+use Rattle.cubemap.proofs.Passed.{size-range, ConvertPassed, convert-passed, look-up-accepted}
+use Rattle.cubemap.proofs.ConvertChecks.{outcome-is}
+use Rattle.cubemap.proofs.Samplers.{tappedPlace, value-cong, value-within, value-own}
 use Rattle.cubemap.proofs.Rotations.{sum-positive, multiple, rotated-multiple, LeadsTo, leads-only}
 use Rattle.cubemap.proofs.RotatedRays.{RotatedRay, rotated-ray, place-ray}
 use Rattle.cubemap.proofs.CubeRays.{PlaceOf, ray-cube, cube-place}
@@ -104,6 +108,46 @@ module _ (s : ConvertSettings) (n m : ℕ) (source : List ℕ) (c : ConvertPasse
       (sampleAtPlace source (s .sourceShape .size) (s .sourceLayout)) (sourcePosition (s .sourceShape) (s .rotation) targetRay)
       (size-range (s .sourceShape .size) (c .source-size) .at-least) position-on-face
       (λ Q q. place-below (s .sourceShape) (s .sourceLayout) source Q (layout-holds (s .sourceLayout) (c .source-layout)) (c .samples) q)
+
+-- ---- so, for every rotation, what stands at a place of the target of an accepted conversion
+
+pub converted-at : (s : ConvertSettings) (source target : List ℕ) → T (isAccepted (convertOutcome s source target .answered))
+    → (P : Place) → IsPlace (s .targetSize) P
+    → sampleAtPlace (convertOutcome s source target .bytes) (s .targetSize) (s .targetLayout) P ≡ convertedSample s source P
+converted-at s source target t P p =
+    ap (λ b. sampleAtPlace b (s .targetSize) (s .targetLayout) P)
+    (ap (λ o. o .bytes) (sym (outcome-is s source target a refl)) ∙ cond-true (isAccepted a) (convertedBytes s source) target u ∙ converted-frame s source)
+    ∙ sample-planeOf (s .targetSize) (s .targetLayout) (layout-holds (s .targetLayout) (c .target-layout)) (convertedSample s source) P
+    (λ Q q. depth-fits (s .sourceShape .depth) (convertedSample s source Q) (c .depth) (converted-within s n m source c Q q)) p
+  where
+    n : ℕ
+    n = length source
+
+    m : ℕ
+    m = length target
+
+    a : Answer
+    a = convertAnswer s n m source
+
+    u : T (isAccepted a)
+    u = subst (λ o. T (isAccepted (o .answered))) (sym (outcome-is s source target a refl)) t
+
+    c : ConvertPassed s n m source
+    c = convert-passed s n m source u
+
+-- and what decides it: the samples at the places that the sampler taps around the position, and nothing else of the source
+pub converted-reads : (s : ConvertSettings) (one two : List ℕ) (P : Place)
+    → (let A = s .sourceShape .size in
+    let p = sourcePosition (s .sourceShape) (s .rotation) (rayOf (formatOf (s .targetFormat)) (s .targetSize) P) in
+    (i j : ℕ) → i < 4 → j < 4
+    → sampleAtPlace one A (s .sourceLayout) (tappedPlace (samplerOf (s .sampler)) A p i j)
+    ≡ sampleAtPlace two A (s .sourceLayout) (tappedPlace (samplerOf (s .sampler)) A p i j))
+    → convertedSample s one P ≡ convertedSample s two P
+unfolding convertedSample valueAt
+converted-reads s one two P h =
+    let A = s .sourceShape .size in
+    value-cong (samplerOf (s .sampler)) A (s .sourceShape .depth) (sampleAtPlace one A (s .sourceLayout)) (sampleAtPlace two A (s .sourceLayout))
+    (sourcePosition (s .sourceShape) (s .rotation) (rayOf (formatOf (s .targetFormat)) (s .targetSize) P)) h
 
 -- ---- cube rotations at one shape
 

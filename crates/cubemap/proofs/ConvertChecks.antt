@@ -2,20 +2,19 @@
 use mathlib.Core.Path.{_≡_, refl, sym, _∙_, ap, subst}
 use mathlib.Core.Bool.{_&&_, cond}
 use mathlib.Core.List.{List, [], _∷_, _++_}
-use Prim.Native.Nat.{ℕ}
+use Prim.Native.Nat.{ℕ, _≤_}
 use lib.Dec.{T}
-use lib.ListN.{length, take}
+use lib.ListN.{length}
 use Rattle.arithmetic.proofs.Tests.{cond-cong}
 use Rattle.cubemap.specs.declared.Refusal.{Refusal}
 use Rattle.cubemap.specs.Interface.{Answer, accepted, isAccepted}
-use Rattle.cubemap.specs.Frames.{shapeOf}
+use Rattle.cubemap.specs.Frames.{shapeOf, sampleAt}
 use Rattle.cubemap.specs.Checks.{ConvertSettings, targetShape, Check, check, samplesCheck, firstFailed, sizeOK, depthOK, codeOK, layoutOK}
-use Rattle.cubemap.specs.Checks.{rotationInRange, rotationNonzero, lengthOK}
+use Rattle.cubemap.specs.Checks.{rotationInRange, rotationNonzero, lengthOK, lowestBeyond}
 use Rattle.cubemap.specs.Checks.{sizeChecks, settingChecks, lengthChecks, beforeSamples, convertChecks}
 use Rattle.cubemap.specs.Outcomes.{outcome, refusal, convertedBytes, convertAnswer, convertOutcome}
 use Rattle.cubemap.proofs.Passed.{AllHold, all-hold, accepted-is, Remaining, firstFailed-append, Between, size-range, ConvertPassed, convert-passed}
-use Rattle.cubemap.proofs.Passed.{passed-source-length}
-use Rattle.cubemap.proofs.Framed.{samples-of-part}
+use Rattle.cubemap.proofs.Framed.{samples-decide}
 use Rattle.cubemap.proofs.Answers.{not-accepted}
 
 module _ (s : ConvertSettings) where
@@ -100,16 +99,14 @@ module _ (s : ConvertSettings) (sourceLength targetLength : ℕ) where
   unfolding convertAnswer convertChecks beforeSamples sizeChecks settingChecks lengthChecks
   answer-before source = firstFailed-append (beforeSamples s sourceLength targetLength) (samplesCheck 10 (s .sourceShape) source ∷ []) tt
 
-  -- so a source that is the first bytes of a frame, where these let the call through, has the answer that the frame's bytes have
-  pub answer-of-part : (source bytes : List ℕ) → (T (isAccepted answer1to9) → source ≡ take sourceLength bytes)
+  -- so a source that has the samples of a frame, up to the lowest one beyond the depth, has the answer that the frame's bytes have
+  pub answer-as-read : (source bytes : List ℕ)
+      → (T (isAccepted answer1to9) → (i : ℕ) → i ≤ lowestBeyond (s .sourceShape) source → sampleAt source i ≡ sampleAt bytes i)
       → convertAnswer s sourceLength targetLength source ≡ convertAnswer s sourceLength targetLength bytes
-  answer-of-part source bytes h = answer-before source ∙ cond-cong (isAccepted answer1to9) answer1to9 same ∙ sym (answer-before bytes)
+  answer-as-read source bytes h = answer-before source ∙ cond-cong (isAccepted answer1to9) answer1to9 same ∙ sym (answer-before bytes)
     where
       same : T (isAccepted answer1to9) → answer10 source ≡ answer10 bytes
-      same t =
-          ap answer10 (h t)
-          ∙ ap (λ c. firstFailed (c ∷ []))
-          (samples-of-part 10 (s .sourceShape) sourceLength bytes (passed-source-length s sourceLength targetLength t))
+      same t = ap (λ c. firstFailed (c ∷ [])) (samples-decide 10 (s .sourceShape) source bytes (h t))
 
 -- ---- the outcome by the answer
 

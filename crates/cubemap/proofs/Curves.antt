@@ -1,4 +1,5 @@
--- The ACP curve: the largest whole number under equation 12, and so its cut; zero at the centre, strictly increasing, and inside the face.
+-- The ACP curve: the largest whole number under equation 12, and so its cut, with the equation's root and without; zero at the centre, strictly
+-- increasing, and inside the face.
 use mathlib.Core.Path.{_≡_, refl, sym, _∙_, ap, ap₂, subst, subst₂}
 use mathlib.Core.List.{[], _∷_}
 use mathlib.Core.Bool.{Bool}
@@ -215,3 +216,29 @@ module _ (A k n e : ℕ) (hk : k < A) (hn : n ≤ e) (he : 0 < e) where
       let y : e * e * (bent N c * A) ≤ e * e * (25 * N * N * k) = mul-le-mul-left (e * e) (curve-is A k .fits) in
       let z : N * N * (25 * e * e * k) < N * N * (bent e n * A) = mul-lt-mul-of-pos-left h (omega arith) in
       not-le-of-lt z (le-trans (over c (curve-is A k .bounded) l) (subst (λ m. e * e * (bent N c * A) ≤ m) (sym right) y)))
+
+-- ---- equation 12 with its root, without reals: c/N ≤ (0.34 − √(0.34² − 0.09·k/A)) / 0.18 < (c+1)/N. Times 100·N, with the root alone on one side:
+-- 34N − 18c ≥ √(1156 − 900·k/A)·N > 34N − 18(c+1); none of the three is negative, so their squares are in the same order.
+
+-- (34M − 18c)² = 1156·M² − 36·c·(34M − 9c)
+bent-square : (M c : ℕ) → c ≤ M → (34 * M - 18 * c) * (34 * M - 18 * c) + 36 * bent M c ≡ 34 * M * (34 * M)
+bent-square M c h = go (34 * M - 18 * c) (34 * M - 9 * c) (34 * M) (omega arith) (omega arith)
+  where
+    go : (g e m : ℕ) → e ≡ g + 9 * c → m ≡ g + 18 * c → g * g + 36 * (c * e) ≡ m * m
+    go g e m p q = rw (p, q) (omega arith)
+
+module _ (A k : ℕ) (h : k < A) where
+  pub equation-12-below :
+      N * N * (1156 * A - 900 * k) ≤ (34 * N - 18 * curve A k) * (34 * N - 18 * curve A k) * A
+  equation-12-below =
+      let c : ℕ = curve A k in
+      let e = ap (λ m. m * A) (bent-square N c (curve-is A k .bounded)) in
+      omega (arith, e, curve-is A k .fits)
+
+  pub equation-12-above :
+      (34 * N - 18 * (curve A k + 1)) * (34 * N - 18 * (curve A k + 1)) * A < N * N * (1156 * A - 900 * k)
+  equation-12-above =
+      let c : ℕ = curve A k in
+      let b = curve-below A k h in
+      let e = ap (λ m. m * A) (bent-square N (c + 1) (omega arith)) in
+      omega (arith, e, curve-over A k (c + 1) (omega arith) (omega arith))

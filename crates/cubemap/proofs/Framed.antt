@@ -2,7 +2,7 @@
 use mathlib.Core.Path.{_≡_, refl, sym, _∙_, ap, ap₂, subst}
 use mathlib.Core.Bool.{false, not}
 use mathlib.Core.List.{List, [], _++_}
-use Prim.Native.Nat.{ℕ, zero, suc, _+_, _*_, _^_, _<_}
+use Prim.Native.Nat.{ℕ, zero, suc, _+_, _*_, _^_, _≤_, _<_}
 use native.Mathlib.Decide.{ℕ-discrete}
 use native.Mathlib.Nat.{le-refl}
 use native.Mathlib.Omega.{arith}
@@ -10,7 +10,7 @@ use lib.Dec.{T, T-not, eqb, eqb→eq, eqb-refl, ltb→lt, lt→ltb}
 use lib.ListN.{length, length-append, take, drop, getD, List·getD-append}
 use lib.Seq.{getD-take, getD-drop, getD-append-add}
 use Rattle.arithmetic.specs.Searches.{lowest, allBelow}
-use Rattle.arithmetic.proofs.Searches.{all-at, all-of, all-cong, Lowest, not-all, lowest-none, lowest-cong}
+use Rattle.arithmetic.proofs.Searches.{all-at, all-of, Lowest, not-all, lowest-none, SameFirst, first-decides}
 use Rattle.arithmetic.proofs.Tests.{same-test}
 use Rattle.cubemap.specs.declared.Place.{Place}
 use Rattle.cubemap.specs.declared.Shape.{Shape}
@@ -148,19 +148,14 @@ beyond-none z bytes t = lowest-none (record { bounded = omega arith; each = none
     none : (i : ℕ) → i < samplesIn z → not (sampleOK z bytes i) ≡ false
     none i h = same-test (not (sampleOK z bytes i)) false (λ n. T-not (sampleOK z bytes i) n (all-at (sampleOK z bytes) (samplesIn z) t i h)) (λ f. absurd f)
 
--- of more bytes than a frame has, the first ones decide
-pub samples-of-part : (k : ℕ) (z : Shape) (n : ℕ) (bytes : List ℕ) → T (lengthOK z n) → samplesCheck k z (take n bytes) ≡ samplesCheck k z bytes
+-- check 10 looks at no sample behind the lowest one beyond the depth: bytes that have the same samples up to that one pass or fail alike
+pub samples-decide : (k : ℕ) (z : Shape) (one two : List ℕ) → ((i : ℕ) → i ≤ lowestBeyond z one → sampleAt one i ≡ sampleAt two i)
+    → samplesCheck k z one ≡ samplesCheck k z two
 unfolding samplesOK lowestBeyond
-samples-of-part k z n bytes t = λ i. record {
-  holds = all-cong (sampleOK z (take n bytes)) (sampleOK z bytes) (samplesIn z) same i;
-  number = k;
-  index = lowest-cong (λ j. not (sampleOK z (take n bytes) j)) (λ j. not (sampleOK z bytes j)) (samplesIn z) (λ j l. ap not (same j l)) i;
-}
+samples-decide k z one two h = λ i. record { holds = same .all-same i; number = k; index = same .lowest-same i }
   where
-    same : (j : ℕ) → j < samplesIn z → sampleOK z (take n bytes) j ≡ sampleOK z bytes j
-    same j l =
-        let long : n ≡ 2 * samplesIn z = length-is z n t ∙ bytes-number z in
-        ap₂ (λ a b. withinDepth (z .depth) (a + 256 * b)) (getD-take n bytes (2 * j) 0 (omega arith)) (getD-take n bytes (2 * j + 1) 0 (omega arith))
+    same : SameFirst (sampleOK z one) (sampleOK z two) (samplesIn z)
+    same = first-decides (sampleOK z one) (sampleOK z two) (samplesIn z) (λ i l. ap (withinDepth (z .depth)) (h i l))
 
 -- at a place of a frame with a layout that passes check 5
 pub place-below : (z : Shape) (L bytes : List ℕ) (P : Place) → LayoutHolds L → T (samplesOK z bytes) → IsPlace (z .size) P

@@ -1,6 +1,7 @@
 -- The marked cases and examples, by computation; then the laws, one module for each subject, each behind those that it uses.
 pub mod Marked
 pub mod Examples
+pub mod Limits
 pub mod Passed
 pub mod LookUps
 pub mod Ranges

@@ -8,7 +8,7 @@ use native.Mathlib.Omega.{arith}
 use lib.Dec.{T, eqb, leb, leb→le, T-not}
 use lib.ListN.{length}
 use borrow.Author.Tests.{not-true}
-use Rattle.arithmetic.proofs.Tests.{not-refused, and-left, and-right, All3, and3, cond-true, cond-both}
+use Rattle.arithmetic.proofs.Tests.{not-refused, and-left, and-right, and-both, All3, and3, all3, cond-true, cond-both}
 use Rattle.cubemap.specs.declared.Ray.{Ray}
 use Rattle.cubemap.specs.Interface.{Answer, answer, accepted, isAccepted}
 use Rattle.cubemap.specs.Checks.{ConvertSettings, ScoreSettings, targetShape, Check, firstFailed, between, sizeOK, depthOK, codeOK}
@@ -191,13 +191,31 @@ convert-passed s n m source t = go (all-hold (convertChecks s n m source) tt t)
         codes : All3 (codeOK (s .sourceShape .format)) (codeOK (s .targetFormat)) (codeOK (s .sampler))
         codes = and3 (codeOK (s .sourceShape .format)) (codeOK (s .targetFormat)) (codeOK (s .sampler)) q4
 
--- checks 1 to 9 alone: the source has its frame's bytes
-pub passed-source-length : (s : ConvertSettings) (n m : ℕ) → T (isAccepted (firstFailed (beforeSamples s n m))) → T (lengthOK (s .sourceShape) n)
-unfolding beforeSamples sizeChecks settingChecks lengthChecks
-passed-source-length s n m t = go (all-hold (beforeSamples s n m) tt t)
+-- and a call that has passed each check is accepted
+pub convert-accepted : (s : ConvertSettings) (n m : ℕ) (source : List ℕ) → ConvertPassed s n m source → convertAnswer s n m source ≡ accepted
+unfolding convertAnswer convertChecks beforeSamples sizeChecks settingChecks lengthChecks
+convert-accepted s n m source p = holding (convertChecks s n m source) (
+  p .source-size,
+  (
+    p .target-size,
+    (
+      p .depth,
+      (
+        codes,
+        (
+          layouts,
+          (p .rotation-in-range, (p .rotation-nonzero, (p .source-length, (p .target-length, (p .samples, tt))))),
+        ),
+      ),
+    ),
+  ),
+)
   where
-    go : AllHold (beforeSamples s n m) → T (lengthOK (s .sourceShape) n)
-    go (q1, (q2, (q3, (q4, (q5, (q6, (q7, (q8, behind)))))))) = q8
+    codes : T (codeOK (s .sourceShape .format) && codeOK (s .targetFormat) && codeOK (s .sampler))
+    codes = all3 (codeOK (s .sourceShape .format)) (codeOK (s .targetFormat)) (codeOK (s .sampler)) (p .source-format) (p .target-format) (p .sampler)
+
+    layouts : T (layoutOK (s .sourceLayout) && layoutOK (s .targetLayout))
+    layouts = and-both (layoutOK (s .sourceLayout)) (layoutOK (s .targetLayout)) (p .source-layout) (p .target-layout)
 
 -- ---- score
 

@@ -1,6 +1,6 @@
 -- The paper's T, a position in 64ths of a sample, one proof for both formats: it is 64 times the exact position rounded to the nearest whole
--- number, it lies within half a 64th, it runs from −32 to 64A−32, and a column's own number gives 64 times the column. Divisions of natural
--- numbers that fit 64 bits give it: one in CMP, three in ACP.
+-- number, it lies within half a 64th, it runs from −32 to 64A−32, and a column's own number gives 64 times the column. T + 32 is a quotient of
+-- natural numbers, rounded down: in CMP of numbers that fit 64 bits; in ACP of larger ones, or in three divisions of numbers that fit.
 use mathlib.Core.Path.{_≡_, refl, sym, _∙_, ap, ap₂, subst}
 use mathlib.Core.List.{[], _∷_}
 use mathlib.Core.Bool.{Bool, cond}

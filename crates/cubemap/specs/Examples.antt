@@ -1,6 +1,6 @@
--- The paper's worked examples outside its table, and cases that settle what the table leaves open: halves, the sign of a fold,
--- short answer buffers, the lowest offending index, records that are not whole; and two whole conversions, with the values that a program written
--- from the paper alone gave for them.
+-- The paper's worked examples outside its table, and cases that settle what the table leaves open: halves, the far rim, values beyond the depth, the
+-- sign of a fold, short answer buffers, the lowest offending index, fields of several bytes, records that are not whole; and conversions and scores,
+-- with the values that a program written from the paper alone gave for them.
 use mathlib.Core.Path.{_≡_}
 use mathlib.Core.Bool.{cond}
 use mathlib.Core.List.{List, [], _∷_, _++_}
@@ -8,15 +8,19 @@ use Prim.Native.Nat.{ℕ, _*_, _%_, _^_}
 use lib.Dec.{leb}
 use lib.ListN.{getD, replicate}
 use lib.IntN.{ℤ, pos}
+use Rattle.cubemap.specs.declared.Place.{Place}
 use Rattle.cubemap.specs.declared.Rotation.{Rotation}
+use Rattle.cubemap.specs.declared.Sampler.{Sampler}
 use Rattle.cubemap.specs.declared.Shape.{Shape}
 use Rattle.cubemap.specs.Interface.{accepted, answer, returnCode, littleEndian, twosComplement}
-use Rattle.cubemap.specs.Frames.{shapeOf, framed, bytesIn, usualLayout}
+use Rattle.cubemap.specs.Frames.{place, shapeOf, framed, bytesIn, usualLayout, sampleAtPlace}
 use Rattle.cubemap.specs.PlaceToRay.{ray}
 use Rattle.cubemap.specs.Rotations.{rotation, CubeRotation, composeAll}
-use Rattle.cubemap.specs.Samplers.{base, phase, rounded}
-use Rattle.cubemap.specs.Checks.{ConvertSettings}
-use Rattle.cubemap.specs.Outcomes.{result, outcome, lookUpResult, foldResult, foldOutcome, equalResult, scoreOutcome, convertOutcome}
+use Rattle.cubemap.specs.RayToPlace.{located}
+use Rattle.cubemap.specs.Samplers.{nearestPlace, base, phase, rounded, clippedTo, sampleFrom}
+use Rattle.cubemap.specs.Checks.{ConvertSettings, convertSettings, ScoreSettings, scoreSettings}
+use Rattle.cubemap.specs.Outcomes.{result, outcome, lookUpResult, foldResult, foldOutcome, equalResult, scoreResult, scoreOutcome}
+use Rattle.cubemap.specs.Outcomes.{convertedSample, convertOutcome}
 use Rattle.cubemap.specs.Listing.{text, listing}
 use Rattle.cubemap.specs.Marked.{cmp, acp, minus, rotationℕ, sizeOne, flat}
 
@@ -49,8 +53,31 @@ settingsOfSize2 format sampler t = record {
 abbrev frameOfSize2 : List ℕ → List ℕ
 frameOfSize2 vs = framed (λ i. getD vs i 0) 24
 
-abbrev sourceOfSize2 : List ℕ
+abbrev pub sourceOfSize2 : List ℕ
 sourceOfSize2 = framed (λ i. i * i * 7 % 256) 24
+
+abbrev pub secondOfSize2 : List ℕ
+secondOfSize2 = framed (λ i. i * i * 5 % 256) 24
+
+-- size 2 to size 1, with the cubic sampler
+abbrev smaller : ConvertSettings
+smaller = convertSettings (shapeOf 2 8 cmp) 1 cmp 1 usualLayout otherLayout (rotationℕ 3 1 2 0)
+
+-- CMP of size 512 to ACP of size 2, with the nearest sampler
+abbrev pub toAcp : ConvertSettings
+toAcp = convertSettings (shapeOf 512 8 cmp) 2 acp 0 usualLayout usualLayout (rotationℕ 3 1 2 0)
+
+-- a score of size 2 and depth 8, the first frame in the usual layout, the second in the other one: format
+abbrev pub scoreOfSize2 : ℕ → ScoreSettings
+scoreOfSize2 format = scoreSettings (shapeOf 2 8 format) usualLayout otherLayout
+
+-- samples of a face with an edge from 0 to 1023 between columns 1 and 2
+abbrev edge : Place → ℕ
+edge P = cond (leb 2 (P .column)) 1023 0
+
+-- the cubic value on such a face of size 4 and depth 10, at column T in row 1
+abbrev edgeValue : ℕ → ℕ
+edgeValue t = sampleFrom Sampler.Cubic 4 10 edge (located 0 (pos t) (pos 64))
 
 pub record Examples : Type 0 where
   -- "12·A² bytes"
@@ -66,6 +93,12 @@ pub record Examples : Type 0 where
       ≡ outcome accepted (frameOfSize2 (
       155 ∷ 138 ∷ 171 ∷ 255 ∷ 4 ∷ 0 ∷ 65 ∷ 195 ∷ 84 ∷ 4 ∷ 28 ∷ 125
       ∷ 199 ∷ 220 ∷ 226 ∷ 58 ∷ 114 ∷ 152 ∷ 137 ∷ 71 ∷ 57 ∷ 71 ∷ 0 ∷ 244 ∷ []))
+  -- from size 2 to size 1
+  pub converted-smaller :
+      convertOutcome smaller sourceOfSize2 (replicate 12 7) ≡ outcome accepted (framed (λ i. getD (122 ∷ 220 ∷ 52 ∷ 237 ∷ 175 ∷ 36 ∷ []) i 0) 6)
+  -- to ACP: this place of the target reads that one of the source. (In CMP it would read column 59 in row 354.)
+  pub converted-to-acp :
+      (source : List ℕ) → convertedSample toAcp source (place 0 0 1) ≡ sampleAtPlace source 512 usualLayout (place 5 70 324)
   -- a sampler code of 2 and no nonzero number: the earlier question's number, and the target stays
   pub convert-refused :
       (source target : List ℕ) → convertOutcome (settingsOfSize2 cmp 2 (rotationℕ 0 0 0 0)) source target ≡ outcome (answer 4 0) target
@@ -73,8 +106,14 @@ pub record Examples : Type 0 where
   pub left-rim : (base (minus 32) ≡ minus 1) × (phase (minus 32) ≡ pos 32)
   -- T = 1/2 and T = −1/2, "halves upward": column 1, row 0
   pub position-halves : lookUpResult 1 cmp (ray (pos 64) (pos 1) (minus 1)) ≡ result accepted (pos 0 ∷ pos 1 ∷ pos 0 ∷ [])
+  -- T half way between columns 0 and 1, and a 64th before; T at the right rim, "A becoming A−1", and at the left one
+  pub nearest-halves : nearestPlace 2 (located 3 (pos 32) (pos 31)) ≡ place 3 1 0
+  pub nearest-rims : nearestPlace 2 (located 3 (pos 96) (minus 32)) ≡ place 3 1 0
   -- the cubic values 1/2 and −1/2, "halves upward"
   pub cubic-halves : (rounded (pos (2 ^ 37)) ≡ pos 1) × (rounded (minus (2 ^ 37)) ≡ pos 0)
+  -- "then clipped to 0..2^D−1": before an edge the filter goes below 0, behind it above 1023
+  pub cubic-clipped : edgeValue 48 ∷ edgeValue 96 ∷ edgeValue 144 ∷ [] ≡ 0 ∷ 512 ∷ 1023 ∷ []
+  pub clipped : clippedTo 12 (pos 4095) ∷ clippedTo 12 (pos 4096) ∷ clippedTo 8 (pos 256) ∷ clippedTo 8 (minus 1) ∷ [] ≡ 4095 ∷ 4095 ∷ 255 ∷ 0 ∷ []
   -- (0,1,0,0) twice is (−1,0,0,0): "if its first nonzero number is negative, all four change sign"
   pub sign : foldResult (rotationℕ 0 1 0 0) (rotationℕ 0 1 0 0) ≡ result accepted (pos 1 ∷ pos 0 ∷ pos 0 ∷ pos 0 ∷ [])
   -- (31,1,0,0) and (31,−1,0,0) have the product (962,0,0,0): question 12 is asked of the folded turn, once divided
@@ -90,6 +129,14 @@ pub record Examples : Type 0 where
   pub equal-by-sign : equalResult (rotationℕ 1 0 1 0) (rotation (minus 1) (pos 0) (minus 1) (pos 0)) ≡ result accepted (pos 1 ∷ [])
   pub equal-by-factor : equalResult (rotationℕ 1 0 1 0) (rotationℕ 31 0 31 0) ≡ result accepted (pos 1 ∷ [])
   pub not-equal : equalResult (rotationℕ 1 0 1 0) (rotationℕ 1 1 0 0) ≡ result accepted (pos 0 ∷ [])
+  -- turns that differ in one number only
+  pub not-equal-in-one :
+      equalResult (rotationℕ 1 2 3 4) (rotationℕ 5 2 3 4) ∷ equalResult (rotationℕ 1 2 3 4) (rotationℕ 1 5 3 4)
+      ∷ equalResult (rotationℕ 1 2 3 4) (rotationℕ 1 2 5 4) ∷ equalResult (rotationℕ 1 2 3 4) (rotationℕ 1 2 3 5) ∷ []
+      ≡ replicate 4 (result accepted (pos 0 ∷ []))
+  -- frames in different layouts, and the same in ACP: "ACP frames use the same weight at the same m, n."
+  pub scored-layouts : scoreResult (scoreOfSize2 cmp) sourceOfSize2 secondOfSize2 ≡ result accepted (pos 10_719_165_732 ∷ pos 856_152 ∷ [])
+  pub scored-acp : scoreResult (scoreOfSize2 acp) sourceOfSize2 secondOfSize2 ≡ result accepted (pos 10_719_165_732 ∷ pos 856_152 ∷ [])
   -- "A number that does not fit whole is not written, and every other byte stays": 20 bytes take two of fold's four numbers
   pub short-answer :
       foldOutcome (rotationℕ 1 1 0 0) (rotationℕ 1 0 1 0) (replicate 20 9)
@@ -111,6 +158,11 @@ pub record Examples : Type 0 where
       ++ rayRecord 2 4 (pos 1) (pos 1) (pos 1) ++ rayRecord cmp 4 (pos 536870912) (pos 1) (pos 1)
       ++ littleEndian 4 15 ++ littleEndian 2 7 ++ littleEndian 1 0)
       ≡ text "at face column row\n0 0 -32 -32\n1 refused 1\n2 refused 4\n3 refused 13\n4 refused 16\n"
+  -- fields of several bytes, in full: face size 512 and Z = −1; the kind 257 with a body of 15; a body of 16,777,216 bytes, which is not there
+  pub listed-fields :
+      listing (rayRecord cmp 512 (pos 2) (minus 1) (minus 1) ++ littleEndian 4 15 ++ littleEndian 2 257 ++ replicate 15 1
+      ++ littleEndian 4 16_777_216 ++ littleEndian 2 1)
+      ≡ text "at face column row\n0 0 24544 24544\n1 refused 15\n2 refused 16\n"
   -- "A record of one byte or more whose six leading bytes .. are cut short"
   pub listed-one-byte : listing (15 ∷ []) ≡ text "at face column row\n0 refused 16\n"
   -- "Empty input prints the header alone."

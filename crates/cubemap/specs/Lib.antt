@@ -11,3 +11,4 @@ pub mod Listing
 pub mod Promises
 pub mod Marked
 pub mod Examples
+pub mod Limits

@@ -17,7 +17,7 @@ use Rattle.cubemap.specs.Outcomes.{convertedSample, convertedBytes}
 use Rattle.cubemap.specs.Promises.{ConvertCall, ConvertPromise}
 use Rattle.cubemap.proofs.Answers.{returned-0}
 use Rattle.cubemap.proofs.Passed.{size-range, ConvertPassed, convert-passed}
-use Rattle.cubemap.proofs.ConvertChecks.{answer-accepted, answer-of-part, outcome-is}
+use Rattle.cubemap.proofs.ConvertChecks.{answer-accepted, answer-as-read, outcome-is}
 use Rattle.cubemap.proofs.Layouts.{layout-holds}
 use Rattle.cubemap.proofs.Framed.{planeOf-cong}
 use Rattle.cubemap.proofs.Rotations.{LeadsTo, sum-positive}
@@ -61,7 +61,7 @@ answers-0 c p = same-test (accepts (told c) (c .source)) (eqb (c .returned) 0)
 -- ---- the model's answer is the call's, though the model has its own frame's bytes and not those that were lent
 
 same-answer : (F : Frame) (c : ConvertCall) → Reads F c → answerTo (told c) (c .source) ≡ answerTo (told c) (F .bytes)
-same-answer F c r = answer-of-part (c .settings) (length (c .source)) (length (c .target)) (c .source) (F .bytes) (r .part)
+same-answer F c r = answer-as-read (c .settings) (length (c .source)) (length (c .target)) (c .source) (F .bytes) (r .part)
 
 pub answers : (F : Frame) (c : ConvertCall) → Fair F c → Answers (F .bytes) c
 answers F c f = record {
@@ -144,22 +144,27 @@ pub record Accepted (b : Model) (c : ConvertCall) : Type 0 where
   pub left : leftBy (b .frame) c ≡ movedFrame (b .frame) (c .settings)
   pub after : afterCall b (told c) ≡ afterAccepted b (c .settings)
 
+-- the model accepts what the call accepts
+accepts-same : (b : Model) (c : ConvertCall) → Fair (b .frame) c → accepts (told c) (c .source) ≡ accepts (told c) (b .frame .bytes)
+accepts-same b c f = ap isAccepted (same-answer (b .frame) c (f .reads))
+
+pub accepted-case : (b : Model) (c : ConvertCall) → Fair (b .frame) c → T (accepts (told c) (c .source)) → Accepted b c
+unfolding afterCall
+accepted-case b c f t = record {
+  own = f .own t;
+  passes-all = passed (b .frame) c f t;
+  left = leaves-moved (b .frame) c f t;
+  after = cond-true (accepts (told c) (b .frame .bytes)) (afterAccepted b (c .settings)) b (subst T (accepts-same b c f) t);
+}
+
 pub cases : (b : Model) (c : ConvertCall) → Fair (b .frame) c → Refused b c ⊎ Accepted b c
 unfolding afterCall leftBy
 cases b c f = go (accepts (told c) (c .source)) refl
   where
-    seen : accepts (told c) (c .source) ≡ accepts (told c) (b .frame .bytes)
-    seen = ap isAccepted (same-answer (b .frame) c (f .reads))
-
     go : (x : Bool) → accepts (told c) (c .source) ≡ x → Refused b c ⊎ Accepted b c
     go false e = inl (record {
       answer-not-0 = λ z. fails (sym (answers-0 c (f .keeps)) ∙ e) (subst (λ n. T (eqb n 0)) (sym z) tt);
       left = cond-false (accepts (told c) (c .source)) _ (b .frame) (fails e);
-      after = cond-false (accepts (told c) (b .frame .bytes)) (afterAccepted b (c .settings)) b (fails (sym seen ∙ e));
+      after = cond-false (accepts (told c) (b .frame .bytes)) (afterAccepted b (c .settings)) b (fails (sym (accepts-same b c f) ∙ e));
     })
-    go true e = inr (record {
-      own = f .own (passes e);
-      passes-all = passed (b .frame) c f (passes e);
-      left = leaves-moved (b .frame) c f (passes e);
-      after = cond-true (accepts (told c) (b .frame .bytes)) (afterAccepted b (c .settings)) b (passes (sym seen ∙ e));
-    })
+    go true e = inr (accepted-case b c f (passes e))

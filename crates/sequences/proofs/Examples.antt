@@ -1,8 +1,6 @@
 -- The examples of the step and of the model hold, and the list of calls is a run, each by computation from the definitions.
 -- Assumes nothing.
 use mathlib.Core.Path.{refl}
-use mathlib.Core.List.{List}
-use Prim.Native.Nat.{ℕ}
 use Rattle.arithmetic.specs.Searches.{largest, lowestFrom, allBelow}
 use Rattle.arithmetic.specs.Sums.{sumBelow}
 use Rattle.cubemap.specs.Frames.{framed, samplesIn, bytesIn, slotOf, quarterTurns, indexInSlot, index}
@@ -11,25 +9,15 @@ use Rattle.cubemap.specs.PlaceToRay.{times, table3, rayOf}
 use Rattle.cubemap.specs.Rotations.{sumOfSquares, rotated, isCubeRotation, product, commonDivisor, divided, signNormalized, compose, composeFrom}
 use Rattle.cubemap.specs.RayToPlace.{faceOf, chosenSize, across, down, adjusted, position64, locate}
 use Rattle.cubemap.specs.Samplers.{base, phase, tapPlace, tapWeight, cubicSum, rounded, sampleFrom}
-use Rattle.cubemap.specs.Checks.{ConvertSettings, targetShape, firstFailed, sizeOK, depthOK, codeOK, layoutOK, rotationInRange, rotationNonzero}
+use Rattle.cubemap.specs.Checks.{targetShape, firstFailed, sizeOK, depthOK, codeOK, layoutOK, rotationInRange, rotationNonzero}
 use Rattle.cubemap.specs.Checks.{lengthOK, samplesOK, lowestBeyond}
 use Rattle.cubemap.specs.Checks.{sizeChecks, settingChecks, lengthChecks, beforeSamples, convertChecks}
 use Rattle.cubemap.specs.Outcomes.{sourcePosition, valueAt, convertedSample, convertedBytes, convertAnswer, convertOutcome}
-use Rattle.cubemap.specs.Promises.{ConvertPromise}
 use Rattle.sequences.specs.Steps.{ledTo}
 use Rattle.sequences.specs.Model.{toldAll, movedFrame, afterCall, afterCalls, acceptedRotations}
 use Rattle.sequences.specs.Runs.{leftBy, Each, Keeping}
-use Rattle.sequences.specs.Examples.{made, calls, Exists, Examples}
-use Rattle.sequences.proofs.Histories.{all-among, reads-whole}
-
--- what the definition makes keeps the promise
-keeps : (s : ConvertSettings) (source : List ℕ) → ConvertPromise (made s source)
-keeps s source = record {
-  gives = record { returns = refl; holds = refl };
-  source-stays = refl;
-  source-layout-stays = refl;
-  target-layout-stays = refl;
-}
+use Rattle.sequences.specs.Examples.{calls, Exists, Examples}
+use Rattle.sequences.proofs.Histories.{all-among, reads-whole, made-keeps}
 
 pub examples : Examples
 unfolding largest lowestFrom allBelow sumBelow
@@ -49,13 +37,14 @@ examples = record {
   moved = refl;
   led = refl;
   layout = refl;
+  told-alike = λ c returned after. refl;
   says-0 = λ after. refl;
   says-1 = λ after. refl;
   beyond = refl;
   exists = record {
     run = record {
       history = calls;
-      made = (keeps _ _, (keeps _ _, (keeps _ _, tt)));
+      made = (made-keeps _ _ _, (made-keeps _ _ _, (made-keeps _ _ _, tt)));
       among = all-among calls;
       reads = (reads-whole _ _ refl, (record { whole = λ t. absurd t; part = λ t. absurd t }, (reads-whole _ _ refl, tt)));
       own = (

@@ -1,6 +1,8 @@
--- Demand 3 is false of each wrong converter and of the invented score: a quarter turn of a frame of six samples tells them apart.
+-- Demand 3 is false of each wrong converter and scorer, and the promise of those that are wrong call by call: a quarter turn of a frame of six samples
+-- tells them apart.
 -- Assumes nothing.
 use mathlib.Core.Path.{_≡_, refl, sym, _∙_, ap, subst}
+use mathlib.Core.Logic.{inl, inr}
 use mathlib.Core.List.{List, [], _∷_}
 use Prim.Native.Nat.{ℕ}
 use native.Mathlib.Omega.{arith}
@@ -21,14 +23,16 @@ use Rattle.cubemap.specs.Checks.{ConvertSettings, convertSettings, targetShape,
 use Rattle.cubemap.specs.Checks.{rotationNonzero, lengthOK, samplesOK, lowestBeyond}
 use Rattle.cubemap.specs.Checks.{sizeChecks, settingChecks, lengthChecks, beforeSamples, convertChecks, scoreChecks}
 use Rattle.cubemap.specs.Outcomes.{written, sourcePosition, valueAt, convertedSample, convertedBytes, convertAnswer, convertOutcome, scoreResult}
-use Rattle.cubemap.specs.Promises.{ConvertCall, convertCall, ConvertPromise, ScoreCall}
+use Rattle.cubemap.specs.Promises.{ConvertCall, convertCall, ConvertPromise, ScoreCall, scoreCall}
 use Rattle.cubemap.specs.Marked.{cmp, rotationℕ}
 use Rattle.sequences.specs.Steps.{ledTo}
 use Rattle.sequences.specs.Model.{told, toldAll, answerTo, accepts, movedFrame, afterCall, afterCalls, modelOf}
-use Rattle.sequences.specs.Runs.{leftBy, lastFrame, Each, OwnCubeTurn, Converter, Keeping, Run}
-use Rattle.sequences.specs.Demand3.{Answered, Scorer, scoring, paperScore, Demand3}
+use Rattle.sequences.specs.Runs.{leftBy, lastFrame, Each, OwnCubeTurn, Converter, Among, Keeping, Run}
+use Rattle.sequences.specs.Demand3.{Answered, Scorer, scoring, paperScore, Given, Demand3}
 use Rattle.sequences.proofs.Histories.{all-among, reads-whole}
-use Rattle.sequences.specs.Excluded.{Leaves, Writes, Copies, TurnsFirst, Grey, WritesNothing, Answers1, Invents, Excluded}
+use Rattle.sequences.specs.Excluded.{Leaves, Writes, Copies, TurnsFirst, TurnsOnly, TurnsUntilAnother, Grey, WritesNothing, Answers1}
+use Rattle.sequences.specs.Excluded.{ScoreLeaves, Invents, BlanksFirst, BlanksSecond, BlanksFirstLayout, BlanksSecondLayout}
+use Rattle.sequences.specs.Excluded.{Excluded, BreakPromises}
 
 -- ---- a frame of six samples, turned once and twice by a quarter, (1,0,1,0)
 
@@ -70,6 +74,7 @@ record Computed : Type 0 where
   -- a call that keeps the promise, and one behind it that copies
   keeps : ConvertPromise (call first 0 once)
   copies : Copies (call once 0 once)
+  copies-another : Copies (call (framed (λ i. 20) 6) 0 (framed (λ i. 20) 6))
   between : leftBy (frame first) (call first 0 once) ≡ frame once
   left-twice : lastFrame (frame first) both ≡ frame once
   model-twice : modelOf (frame first) both .frame ≡ frame twice
@@ -89,6 +94,7 @@ computed = record {
   model-once = λ returned after. refl;
   keeps = record { gives = record { returns = refl; holds = refl }; source-stays = refl; source-layout-stays = refl; target-layout-stays = refl };
   copies = record { returns = refl; holds = refl; source-stays = refl; source-layout-stays = refl; target-layout-stays = refl };
+  copies-another = record { returns = refl; holds = refl; source-stays = refl; source-layout-stays = refl; target-layout-stays = refl };
   between = refl;
   left-twice = refl;
   model-twice = refl;
@@ -145,77 +151,178 @@ nothing code = record { returns = refl; holds = refl; source-stays = refl; sourc
 
 writes-something : (S : Scorer) → Demand3 (Keeping WritesNothing) S → ⊥
 unfolding head Keeping
-writes-something S D = absurd (omega (arith, ap head (must-leave (Keeping WritesNothing) S D 0 room (nothing 0, tt))))
+writes-something S D = absurd (omega (arith, ap head (must-leave (Keeping WritesNothing) S D 0 room (writes room, tt))))
 
 not-always-1 : (S : Scorer) → Demand3 (Keeping Answers1) S → ⊥
 unfolding Keeping
 not-always-1 S D = absurd (omega (arith, must-return (Keeping Answers1) S D 1 room (nothing 1, tt)))
 
--- ---- the one that turns the first frame and copies later ones: a second quarter turn
+-- ---- those that copy later: a second quarter turn
 
-run-both : Run TurnsFirst (frame first) both
-unfolding TurnsFirst Keeping Each
-run-both = record {
-  history = both;
-  made = (computed .keeps, (computed .copies, tt));
-  among = all-among both;
-  reads = (reads-whole (frame first) (call first 0 once) refl, (reads-whole _ (call once 0 once) (ap (λ F. F .bytes) (sym (computed .between))), tt));
-  own = ((λ t. quarter first), ((λ t. subst (λ F. OwnCubeTurn F settings) (sym (computed .between)) (quarter once)), tt));
-}
+module _ (M : Converter) (S : Scorer) (D : Demand3 M S) (history : List ConvertCall) (made : M history) (among : Among both history) where
+  run-both : Run M (frame first) both
+  unfolding Each
+  run-both = record {
+    history = history;
+    made = made;
+    among = among;
+    reads = (reads-whole (frame first) (call first 0 once) refl, (reads-whole _ (call once 0 once) (ap (λ F. F .bytes) (sym (computed .between))), tt));
+    own = ((λ t. quarter first), ((λ t. subst (λ F. OwnCubeTurn F settings) (sym (computed .between)) (quarter once)), tt));
+  }
+
+  must-turn-twice : ⊥
+  unfolding head
+  must-turn-twice = absurd (omega (
+    arith,
+    ap (λ F. head (F .bytes))
+        (sym (computed .left-twice) ∙ D .kept (frame first) both run-both .frame ∙ computed .model-twice),
+  ))
 
 no-turns-first : (S : Scorer) → Demand3 TurnsFirst S → ⊥
-unfolding head
-no-turns-first S D = absurd (omega (
-  arith,
-  ap (λ F. head (F .bytes))
-      (sym (computed .left-twice) ∙ D .kept (frame first) both run-both .frame ∙ computed .model-twice),
-))
+unfolding TurnsFirst Keeping
+no-turns-first S D = must-turn-twice TurnsFirst S D both (computed .keeps, (computed .copies, tt)) (all-among both)
 
--- ---- the invented sum: the frame against itself has no error
+-- another frame comes between
+abbrev another : List ℕ
+another = framed (λ i. 20) 6
+
+abbrev with-another : List ConvertCall
+with-another = call first 0 once ∷ call another 0 another ∷ call once 0 once ∷ []
+
+is-another : another ≡ leftBy (frame first) (call first 0 once) .bytes → ⊥
+unfolding head framed
+is-another e = absurd (omega (arith, ap head (e ∙ ap (λ F. F .bytes) (computed .between))))
+
+no-turns-until-another : (S : Scorer) → Demand3 TurnsUntilAnother S → ⊥
+unfolding TurnsUntilAnother TurnsOnly Keeping Among
+no-turns-until-another S D = must-turn-twice TurnsUntilAnother S D with-another
+    (inl (refl, (computed .keeps, inr (is-another, (computed .copies-another, (computed .copies, tt))))))
+    (inl (refl, inr (inl (refl, tt))))
+
+-- ---- the scorers, on the first frame against itself, which has no error
 
 abbrev sums : List ℕ
 sums = replicate 16 0
 
-abbrev scoring-first : List ℕ → ScoreCall
-scoring-first after = record {
-  settings = scoring (frame first) (frame first);
-  first = first;
-  second = first;
-  buffer = sums;
-  returned = 0;
-  firstLayoutAfter = usualLayout;
-  secondLayoutAfter = usualLayout;
-  firstAfter = first;
-  secondAfter = first;
-  bufferAfter = after;
-}
+-- what the call left in its buffer, in the two frames and in the two layouts
+abbrev scoring-first : List ℕ → List ℕ → List ℕ → List ℕ → List ℕ → ScoreCall
+scoring-first after firstAfter secondAfter firstLayoutAfter secondLayoutAfter =
+    scoreCall (scoring (frame first) (frame first)) first first sums 0 firstLayoutAfter secondLayoutAfter firstAfter secondAfter after
 
+-- the first number of the buffer, as the paper has it and as it is invented
 record Scored : Type 0 where
-  after : List ℕ
-  invents : Invents (scoring-first after)
-  heads : head after ≡ 1
+  true-answer : returnCode (paperScore (frame first) (frame first) .answered) ≡ 0
   true-head : head (written (paperScore (frame first) (frame first)) sums .bytes) ≡ 0
+  after : List ℕ
+  invents : Invents (scoring-first after first first usualLayout usualLayout)
+  heads : head after ≡ 1
 
 scored : Scored
 unfolding largest lowestFrom allBelow sumBelow putAt putAll head
     framed samplesIn bytesIn slotOf quarterTurns indexInSlot index
     weightOf weight squaredDifference overPlaces errorSum weightSum
     firstFailed sizeOK depthOK codeOK layoutOK lengthOK samplesOK lowestBeyond scoreChecks scoreResult
-scored = record { after = _; invents = record { returns = refl; holds = refl }; heads = refl; true-head = refl }
+scored = record {
+  true-answer = refl;
+  true-head = refl;
+  after = _;
+  invents = record {
+    gives = record { returns = refl; holds = refl };
+    first-holds = refl;
+    second-holds = refl;
+    first-layout-holds = refl;
+    second-layout-holds = refl;
+  };
+  heads = refl;
+}
+
+-- what demand 3 makes of a scorer's call
+module _ (M : Converter) (S : Scorer) (D : Demand3 M S) (after firstAfter secondAfter firstLayoutAfter secondLayoutAfter : List ℕ) where
+  must-give : S (scoring-first after firstAfter secondAfter firstLayoutAfter secondLayoutAfter)
+      → Given (frame first) (frame first) (scoring-first after firstAfter secondAfter firstLayoutAfter secondLayoutAfter)
+  must-give made = D .given (frame first) (frame first) (scoring-first after firstAfter secondAfter firstLayoutAfter secondLayoutAfter) refl
+      (record { settings-are = refl; first-is = refl; second-is = refl }) made
 
 no-invents : (M : Converter) → Demand3 M Invents → ⊥
 no-invents M D = absurd (omega (
   arith,
-  sym (scored .heads) ∙ ap head (D .given (frame first) (frame first) (scoring-first (scored .after)) refl
-      (record { settings-are = refl; first-is = refl; second-is = refl }) (scored .invents) .holds) ∙ scored .true-head,
+  sym (scored .heads) ∙ ap head (must-give M Invents D (scored .after) first first usualLayout usualLayout (scored .invents) .gives .holds)
+      ∙ scored .true-head,
 ))
+
+-- a call with the paper's score, and its frames and layouts as they are given here
+abbrev paper-sums : List ℕ
+paper-sums = written (paperScore (frame first) (frame first)) sums .bytes
+
+leaving : (firstAfter secondAfter firstLayoutAfter secondLayoutAfter : List ℕ)
+    → ScoreLeaves (paperScore (frame first) (frame first)) firstAfter secondAfter firstLayoutAfter secondLayoutAfter
+    (scoring-first paper-sums firstAfter secondAfter firstLayoutAfter secondLayoutAfter)
+leaving firstAfter secondAfter firstLayoutAfter secondLayoutAfter = record {
+  gives = record { returns = sym (scored .true-answer); holds = refl };
+  first-holds = refl;
+  second-holds = refl;
+  first-layout-holds = refl;
+  second-layout-holds = refl;
+}
+
+-- 12 bytes 0
+abbrev blanked : List ℕ
+blanked = replicate 12 0
+
+no-blank-frame : blanked ≡ first → ⊥
+unfolding head
+no-blank-frame e = absurd (omega (arith, ap head e))
+
+no-blank-layout : blanked ≡ usualLayout → ⊥
+unfolding head
+no-blank-layout e = absurd (omega (arith, ap head e))
+
+no-blanks-first : (M : Converter) → Demand3 M BlanksFirst → ⊥
+no-blanks-first M D = no-blank-frame
+    (must-give M BlanksFirst D paper-sums blanked first usualLayout usualLayout (leaving blanked first usualLayout usualLayout) .first-stays)
+
+no-blanks-second : (M : Converter) → Demand3 M BlanksSecond → ⊥
+no-blanks-second M D = no-blank-frame
+    (must-give M BlanksSecond D paper-sums first blanked usualLayout usualLayout (leaving first blanked usualLayout usualLayout) .second-stays)
+
+no-blanks-first-layout : (M : Converter) → Demand3 M BlanksFirstLayout → ⊥
+no-blanks-first-layout M D = no-blank-layout
+    (must-give M BlanksFirstLayout D paper-sums first first blanked usualLayout (leaving first first blanked usualLayout) .first-layout-stays)
+
+no-blanks-second-layout : (M : Converter) → Demand3 M BlanksSecondLayout → ⊥
+no-blanks-second-layout M D = no-blank-layout
+    (must-give M BlanksSecondLayout D paper-sums first first usualLayout blanked (leaving first first usualLayout blanked) .second-layout-stays)
 
 pub excluded : Excluded
 excluded = record {
   copies = no-copies;
   turns-first = no-turns-first;
+  turns-until-another = no-turns-until-another;
   grey = no-grey;
   writes-nothing = writes-something;
   answers-1 = not-always-1;
   invents = no-invents;
+  blanks-first = no-blanks-first;
+  blanks-second = no-blanks-second;
+  blanks-first-layout = no-blanks-first-layout;
+  blanks-second-layout = no-blanks-second-layout;
+}
+
+-- ---- demand 2: the promise itself, of the same calls
+
+-- what the promise says of a call on the first frame
+promised : (returned : ℕ) (after : List ℕ) → ConvertPromise (call first returned after) → (returned ≡ 0) × (after ≡ once)
+promised returned after p = (p .gives .returns ∙ sym (computed .keeps .gives .returns), p .gives .holds ∙ sym (computed .keeps .gives .holds))
+
+pub break-promises : BreakPromises
+unfolding head framed
+break-promises = record {
+  copies = λ h. absurd (omega (arith, ap head (promised 0 first (h _ (writes first)) .1)));
+  grey = λ h. absurd (omega (arith, ap head (promised 0 (framed (λ i. 128) 6) (h _ (writes (framed (λ i. 128) 6))) .1)));
+  writes-nothing = λ h. absurd (omega (arith, ap head (promised 0 room (h _ (writes room)) .1)));
+  answers-1 = λ h. absurd (omega (arith, promised 1 room (h _ (nothing 1)) .0));
+  invents = λ h. absurd (omega (
+    arith,
+    sym (scored .heads) ∙ ap head (h _ (scored .invents) .gives .holds) ∙ scored .true-head,
+  ));
 }

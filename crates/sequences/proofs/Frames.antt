@@ -4,7 +4,7 @@ use mathlib.Core.Bool.{Bool, _&&_}
 use Prim.Native.Nat.{ℕ, _^_, _<_}
 use lib.Dec.{T}
 use lib.ListN.{length}
-use Rattle.arithmetic.proofs.Tests.{and-both, all4}
+use Rattle.arithmetic.proofs.Tests.{and-left, and-right, and-both, All4, and4, all4}
 use Rattle.cubemap.specs.declared.Place.{Place}
 use Rattle.cubemap.specs.Frames.{Frame, IsPlace, frameSample}
 use Rattle.cubemap.specs.Rotations.{sumOfSquares}
@@ -27,29 +27,47 @@ pub record FrameHolds (F : Frame) : Type 0 where
   pub length-ok : T (lengthOK (F .shape) (length (F .bytes)))
   pub samples : T (samplesOK (F .shape) (F .bytes))
 
-pub frame-ok : (F : Frame) → FrameHolds F → T (frameOK F)
-unfolding frameOK
-frame-ok F g = and-both (size && depth && format && layout && long) samples
-    (and-both (size && depth && format && layout) long (all4 size depth format layout (g .size) (g .depth) (g .format) (g .layout-ok)) (g .length-ok))
-    (g .samples)
-  where
-    size : Bool
-    size = sizeOK (F .shape .size)
+module _ (F : Frame) where
+  abbrev size : Bool
+  size = sizeOK (F .shape .size)
 
-    depth : Bool
-    depth = depthOK (F .shape .depth)
+  abbrev depth : Bool
+  depth = depthOK (F .shape .depth)
 
-    format : Bool
-    format = codeOK (F .shape .format)
+  abbrev format : Bool
+  format = codeOK (F .shape .format)
 
-    layout : Bool
-    layout = layoutOK (F .layout)
+  abbrev layout : Bool
+  layout = layoutOK (F .layout)
 
-    long : Bool
-    long = lengthOK (F .shape) (length (F .bytes))
+  abbrev long : Bool
+  long = lengthOK (F .shape) (length (F .bytes))
 
-    samples : Bool
-    samples = samplesOK (F .shape) (F .bytes)
+  abbrev samples : Bool
+  samples = samplesOK (F .shape) (F .bytes)
+
+  pub frame-ok : FrameHolds F → T (frameOK F)
+  unfolding frameOK
+  frame-ok g = and-both (size && depth && format && layout && long) samples
+      (and-both (size && depth && format && layout) long (all4 size depth format layout (g .size) (g .depth) (g .format) (g .layout-ok)) (g .length-ok))
+      (g .samples)
+
+  pub frame-holds : T (frameOK F) → FrameHolds F
+  unfolding frameOK
+  frame-holds t = record {
+    size = q .first;
+    depth = q .second;
+    format = q .third;
+    layout-ok = q .fourth;
+    length-ok = and-right (size && depth && format && layout) long front;
+    samples = and-right (size && depth && format && layout && long) samples t;
+  }
+    where
+      front : T (size && depth && format && layout && long)
+      front = and-left (size && depth && format && layout && long) samples t
+
+      q : All4 size depth format layout
+      q = and4 size depth format layout (and-left (size && depth && format && layout) long front)
 
 -- the source of an accepted conversion that names the frame's own shape and layout
 pub source-holds : (F : Frame) (s : ConvertSettings) (m : ℕ) → OwnCubeTurn F s → ConvertPassed s (length (F .bytes)) m (F .bytes) → FrameHolds F

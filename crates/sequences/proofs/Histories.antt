@@ -1,13 +1,13 @@
--- Lists of calls: those of a history, and those that read a frame as it stands.
-use mathlib.Core.Path.{_≡_, refl, sym, _∙_, ap, subst}
+-- Lists of calls: those of a history, those that read a frame as it stands, and those that convert's definition makes.
+use mathlib.Core.Path.{_≡_, refl, sym, ap, subst}
 use mathlib.Core.Logic.{inl, inr}
 use mathlib.Core.List.{List, [], _∷_}
-use native.Mathlib.Nat.{le-refl}
-use lib.ListN.{length, take}
-use lib.Seq.{take-all}
-use Rattle.cubemap.specs.Frames.{Frame}
-use Rattle.cubemap.specs.Promises.{ConvertCall}
+use Prim.Native.Nat.{ℕ}
+use Rattle.cubemap.specs.Frames.{Frame, sampleAt}
+use Rattle.cubemap.specs.Checks.{ConvertSettings}
+use Rattle.cubemap.specs.Promises.{ConvertCall, ConvertPromise}
 use Rattle.sequences.specs.Runs.{Reads, Among, Keeping}
+use Rattle.sequences.specs.Existence.{made}
 
 -- all calls of a history
 pub all-among : (cs : List ConvertCall) → Among cs cs
@@ -25,7 +25,13 @@ among-keeping promise (c ∷ cs) (h ∷ history) (inr a) (k, ks) = among-keeping
 
 -- a source that holds the frame's bytes
 pub reads-whole : (F : Frame) (c : ConvertCall) → c .source ≡ F .bytes → Reads F c
-reads-whole F c e = record {
-  whole = λ t. e;
-  part = λ t. sym (take-all (length (c .source)) (c .source) (le-refl (length (c .source)))) ∙ ap (take (length (c .source))) e;
+reads-whole F c e = record { whole = λ t. e; part = λ t i l. ap (λ b. sampleAt b i) e }
+
+-- a call as convert's definition makes it keeps the promise
+pub made-keeps : (s : ConvertSettings) (source target : List ℕ) → ConvertPromise (made s source target)
+made-keeps s source target = record {
+  gives = record { returns = refl; holds = refl };
+  source-stays = refl;
+  source-layout-stays = refl;
+  target-layout-stays = refl;
 }

@@ -6,5 +6,6 @@ pub mod Calls
 pub mod Runs
 pub mod Scores
 pub mod Permanence
+pub mod Existence
 pub mod Excluded
 pub mod Twice

@@ -23,8 +23,8 @@ module _ {M : Converter} {S : Scorer} (D : Demand3 M S) (F G : Frame) (cs ds : L
   pub same-score : (c d : ScoreCall) → Scores F G c → S c → Scores (lastFrame F cs) (lastFrame G ds) d → S d → c .buffer ≡ d .buffer
       → (d .returned ≡ c .returned) × (d .bufferAfter ≡ c .bufferAfter)
   same-score c d f p g s e =
-      let x = D .given F G c same f p in
-      let y = D .given (lastFrame F cs) (lastFrame G ds) d (D .kept F cs r .shape ∙ same ∙ sym (D .kept G ds q .shape)) g s in
+      let x = D .given F G c same f p .gives in
+      let y = D .given (lastFrame F cs) (lastFrame G ds) d (D .kept F cs r .shape ∙ same ∙ sym (D .kept G ds q .shape)) g s .gives in
       let score = D .scored F G cs ds r q same places in (
         y .returns ∙ ap (λ (r : Result). returnCode (r .answered)) score ∙ sym (x .returns),
         y .holds ∙ ap₂ (λ b (r : Result). putAll b 0 (r .values)) (sym e) score ∙ sym (x .holds),

@@ -151,7 +151,7 @@ pub record Synced (b : Model) (cs : List ConvertCall) : Type 0 where
   pub follows : (first : Frame) → first .shape .size ≤ 512 → Follows first b → Follows first (afterCalls b (toldAll cs))
 
 -- the frame that a call leaves is the model's
-leaves-model : (b : Model) (c : ConvertCall) → Refused b c ⊎ Accepted b c → leftBy (b .frame) c ≡ afterCall b (told c) .frame
+pub leaves-model : (b : Model) (c : ConvertCall) → Refused b c ⊎ Accepted b c → leftBy (b .frame) c ≡ afterCall b (told c) .frame
 leaves-model b c (inl r) = r .left ∙ ap (λ m. m .frame) (sym (r .after))
 leaves-model b c (inr r) = r .left ∙ ap (λ m. m .frame) (sym (r .after))
 

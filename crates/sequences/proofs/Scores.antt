@@ -19,17 +19,21 @@ use Rattle.cubemap.proofs.Scores.{error-moved, SameToChecks, score-same}
 use Rattle.sequences.specs.Steps.{ledTo, SamePlaces}
 use Rattle.sequences.specs.Model.{Model, modelOf}
 use Rattle.sequences.specs.Runs.{lastFrame, Keeping, Run}
-use Rattle.sequences.specs.Demand3.{frameOK, Scores, paperScore}
+use Rattle.sequences.specs.Demand3.{frameOK, Scores, paperScore, Given}
 use Rattle.sequences.proofs.Frames.{FrameHolds}
 use Rattle.sequences.proofs.Runs.{Follows, follows-led, last-is, run-follows, kept}
 
 -- ---- the call gives the paper's score
 
-pub given : (F G : Frame) (c : ScoreCall) → F .shape ≡ G .shape → Scores F G c → ScorePromise c
-    → Gives (written (paperScore F G) (c .buffer)) (c .returned) (c .bufferAfter)
-given F G c same h p =
-    subst (λ r. Gives (written r (c .buffer)) (c .returned) (c .bufferAfter)) (λ i. scoreResult (h .settings-are i) (h .first-is i) (h .second-is i))
-    (p .gives)
+pub given : (F G : Frame) (c : ScoreCall) → F .shape ≡ G .shape → Scores F G c → ScorePromise c → Given F G c
+given F G c same h p = record {
+  gives = subst (λ r. Gives (written r (c .buffer)) (c .returned) (c .bufferAfter)) (λ i. scoreResult (h .settings-are i) (h .first-is i) (h .second-is i))
+      (p .gives);
+  first-stays = p .first-stays ∙ h .first-is;
+  second-stays = p .second-stays ∙ h .second-is;
+  first-layout-stays = p .first-layout-stays ∙ ap (λ s. s .firstLayout) (h .settings-are);
+  second-layout-stays = p .second-layout-stays ∙ ap (λ s. s .secondLayout) (h .settings-are);
+}
 
 -- ---- the checks see of the model's frame what they saw of the first
 

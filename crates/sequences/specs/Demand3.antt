@@ -100,6 +100,14 @@ pub record Scores (F G : Frame) (c : ScoreCall) : Type 0 where
   pub first-is : c .first ≡ F .bytes
   pub second-is : c .second ≡ G .bytes
 
+-- what such a call gives: "the paper's score, which the call must give", and what it only reads stays
+pub record Given (F G : Frame) (c : ScoreCall) : Type 0 where
+  pub gives : Gives (written (paperScore F G) (c .buffer)) (c .returned) (c .bufferAfter)
+  pub first-stays : c .firstAfter ≡ F .bytes
+  pub second-stays : c .secondAfter ≡ G .bytes
+  pub first-layout-stays : c .firstLayoutAfter ≡ F .layout
+  pub second-layout-stays : c .secondLayoutAfter ≡ G .layout
+
 -- ---- the claim, of a converter and a scorer
 
 pub record Demand3 (M : Converter) (S : Scorer) : Type 0 where
@@ -109,8 +117,7 @@ pub record Demand3 (M : Converter) (S : Scorer) : Type 0 where
   -- "for every first frame and every list of conversions"
   pub kept : (first : Frame) (cs : List ConvertCall) → Run M first cs → Kept first cs
   -- "the paper's score, which the call must give"
-  pub given : (F G : Frame) (c : ScoreCall) → F .shape ≡ G .shape → Scores F G c → S c
-      → Gives (written (paperScore F G) (c .buffer)) (c .returned) (c .bufferAfter)
+  pub given : (F G : Frame) (c : ScoreCall) → F .shape ≡ G .shape → Scores F G c → S c → Given F G c
   -- "For every two first frames of equal size, depth and format, each with such a list of its own: where the two folds give the same places, the
   -- paper's score .. has for the two last frames the number, index and sums that it had for the two first ones."
   pub scored : (F G : Frame) (cs ds : List ConvertCall) → Run M F cs → Run M G ds → F .shape ≡ G .shape

@@ -8,17 +8,17 @@ use lib.ListN.{replicate}
 use lib.IntN.{pos}
 use Rattle.cubemap.specs.declared.Rotation.{Rotation}
 use Rattle.cubemap.specs.declared.Shape.{Shape}
-use Rattle.cubemap.specs.Interface.{answer, returnCode}
+use Rattle.cubemap.specs.Interface.{answer}
 use Rattle.cubemap.specs.Frames.{Frame, place, shapeOf, framed, usualLayout, frameSample}
 use Rattle.cubemap.specs.Rotations.{rotation, composeAll}
 use Rattle.cubemap.specs.Checks.{ConvertSettings, convertSettings}
-use Rattle.cubemap.specs.Outcomes.{convertOutcome}
 use Rattle.cubemap.specs.Promises.{ConvertCall, convertCall, ConvertPromise}
 use Rattle.cubemap.specs.Marked.{cmp, minus, rotationℕ}
 use Rattle.cubemap.specs.Examples.{otherLayout}
 use Rattle.sequences.specs.Steps.{ledTo}
 use Rattle.sequences.specs.Model.{told, toldAll, Model, answerTo, atStart, afterCall, afterCalls, acceptedRotations}
 use Rattle.sequences.specs.Runs.{leftBy, Keeping, Run}
+use Rattle.sequences.specs.Existence.{made}
 
 abbrev small : Shape
 small = shapeOf 1 8 cmp
@@ -39,16 +39,6 @@ turning t L M = convertSettings small 1 cmp 1 L M t
 abbrev room : List ℕ
 room = replicate 12 7
 
--- a call, with what it returned and wrote
-abbrev call : ConvertSettings → List ℕ → ℕ → List ℕ → ConvertCall
-call s source returned after = convertCall s source room returned (s .sourceLayout) (s .targetLayout) source after
-
--- the call as convert's definition makes it
-abbrev pub made : ConvertSettings → List ℕ → ConvertCall
-made s source =
-    let o = convertOutcome s source room in
-    call s source (returnCode (o .answered)) (o .bytes)
-
 -- the second call names another depth and another layout than the frame's, and its source is a byte short
 abbrev short : List ℕ
 short = replicate 11 0
@@ -57,16 +47,21 @@ abbrev ofAnother : ConvertSettings
 ofAnother = convertSettings (shapeOf 1 12 cmp) 1 cmp 1 (5 ∷ 4 ∷ 3 ∷ 2 ∷ 1 ∷ 0 ∷ 0 ∷ 0 ∷ 0 ∷ 0 ∷ 0 ∷ 0 ∷ []) usualLayout (rotationℕ 1 0 0 1)
 
 abbrev call1 : ConvertCall
-call1 = made (turning (rotationℕ 1 0 1 0) otherLayout usualLayout) (first .bytes)
+call1 = made (turning (rotationℕ 1 0 1 0) otherLayout usualLayout) (first .bytes) room
 
 abbrev call2 : ConvertCall
-call2 = made ofAnother short
+call2 = made ofAnother short room
 
 abbrev call3 : ConvertCall
-call3 = made (turning (rotationℕ 1 1 0 0) usualLayout usualLayout) (call1 .targetAfter)
+call3 = made (turning (rotationℕ 1 1 0 0) usualLayout usualLayout) (call1 .targetAfter) room
 
 abbrev pub calls : List ConvertCall
 calls = call1 ∷ call2 ∷ call3 ∷ []
+
+-- the same call, had it returned and left something else
+abbrev saying : ConvertCall → ℕ → List ℕ → ConvertCall
+saying c returned after =
+    convertCall (c .settings) (c .source) (c .target) returned (c .sourceLayoutAfter) (c .targetLayoutAfter) (c .sourceAfter) after
 
 -- the samples of faces 0 to 5, one each
 abbrev samples : Frame → List ℕ
@@ -99,11 +94,11 @@ pub record Examples : Type 0 where
       ≡ place 5 0 0 ∷ place 4 0 0 ∷ place 0 0 0 ∷ place 1 0 0 ∷ place 3 0 0 ∷ place 2 0 0 ∷ []
   -- "in the target's layout"
   pub layout : last .frame .layout ≡ usualLayout
-  -- what a call answers decides nothing: a refused one that says 0 and writes leaves the frame, an accepted one that says 1 leaves what it wrote
-  pub says-0 : (after : List ℕ) → leftBy first (call ofAnother short 0 after) ≡ first
-  pub says-1 : (after : List ℕ)
-      → leftBy first (call (turning (rotationℕ 1 0 1 0) otherLayout usualLayout) (first .bytes) 1 after)
-      ≡ record { shape = small; layout = usualLayout; bytes = after }
+  -- "never with what a call answers or writes"
+  pub told-alike : (c : ConvertCall) (returned : ℕ) (after : List ℕ) → told (saying c returned after) ≡ told c
+  -- nor does that decide which frame is left: a refused call that says 0 and writes leaves the frame, an accepted one that says 1 leaves what it wrote
+  pub says-0 : (after : List ℕ) → leftBy first (saying call2 0 after) ≡ first
+  pub says-1 : (after : List ℕ) → leftBy first (saying call1 1 after) ≡ record { shape = small; layout = usualLayout; bytes = after }
   -- a first frame with a sample beyond its depth: the model refuses what it would accept of the other one
   pub beyond : afterCall (atStart tooBright) (told call1) ≡ atStart tooBright
   pub exists : Exists

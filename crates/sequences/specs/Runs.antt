@@ -3,12 +3,12 @@ use mathlib.Core.Path.{_≡_}
 use mathlib.Core.Logic.{_⊎_}
 use mathlib.Core.Bool.{Bool, cond}
 use mathlib.Core.List.{List, [], _∷_}
+use Prim.Native.Nat.{ℕ, _≤_}
 use lib.Dec.{T}
-use lib.ListN.{length, take}
 use Rattle.cubemap.specs.Interface.{isAccepted}
-use Rattle.cubemap.specs.Frames.{Frame}
+use Rattle.cubemap.specs.Frames.{Frame, sampleAt}
 use Rattle.cubemap.specs.Rotations.{CubeRotation}
-use Rattle.cubemap.specs.Checks.{ConvertSettings, targetShape, firstFailed, beforeSamples}
+use Rattle.cubemap.specs.Checks.{ConvertSettings, targetShape, firstFailed, lowestBeyond, beforeSamples}
 use Rattle.cubemap.specs.Promises.{ConvertCall}
 use Rattle.sequences.specs.Model.{Told, told, accepts}
 
@@ -41,9 +41,10 @@ passesBeforeSamples c = isAccepted (firstFailed (beforeSamples (c .settings) (c 
 pub record Reads (F : Frame) (c : ConvertCall) : Type 0 where
   -- the source of an accepted call holds that frame's bytes
   pub whole : T (accepts (told c) (c .source)) → c .source ≡ F .bytes
-  -- so does the source of one that check 10 refuses, as far as it goes: the call may name another size, and be lent a part. (A call that checks 1 to 9
-  -- refuse reads no sample, and may be lent anything.)
-  pub part : T (passesBeforeSamples (told c)) → c .source ≡ take (length (c .source)) (F .bytes)
+  -- check 10 looks at the samples from the first to the lowest one beyond the depth: these are that frame's. What lies behind is free, so a call that
+  -- check 10 refuses may name another size, smaller or larger. (One that checks 1 to 9 refuse looks at no sample, and may be lent anything.)
+  pub part : T (passesBeforeSamples (told c))
+      → (i : ℕ) → i ≤ lowestBeyond (c .settings .sourceShape) (c .source) → sampleAt (c .source) i ≡ sampleAt (F .bytes) i
 
 -- "An accepted conversion names for its source that frame's own size, depth, format and layout"; it goes "by whole-cube turns to the first frame's own
 -- size, depth and format", which the frame left to it has too, "with either sampler and any layouts"
