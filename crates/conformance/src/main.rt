@@ -1,21 +1,26 @@
 // Runs a fixed list of conversions through the exported calls, scores the source against each target, and prints a line for each, so that what the
 // part gives can be compared byte by byte with what a program that was written from the paper gives. The conversions try each number of a call at the
-// ends of its range and beyond them, each layout with each, whole-cube turns, and damaged buffers.
+// ends of its range and beyond them, each layout with each, whole-cube turns, and damaged buffers. Six calls of fold, equal and look_up follow: with
+// two parameters of such a call exchanged, another text is printed.
 //
-// Behind a heading, a line holds 26 numbers: source size, target size, depth, source format, target format, sampler, source layout, target layout,
-// the turn's four numbers, damage; then what the conversion answered, the number of its refusal (0 where there is none) and the index, the digest
-// of the target's bytes after the call, and six single samples of it, one of each face; then what a score of the source against the target answered,
-// with the source's size, depth and format: the number of its refusal and the index, and the two numbers in its answer buffer, which are 0 where it
-// wrote none.
+// Behind a heading, the line of a conversion holds 26 numbers: source size, target size, depth, source format, target format, sampler, source layout,
+// target layout, the turn's four numbers, damage; then what the conversion answered, the number of its refusal (0 where there is none) and the index,
+// the digest of the target's bytes after the call, and six single samples of it, one of each face; then what a score of the source against the target
+// answered, with the source's size, depth and format: the number of its refusal and the index, and the two numbers in its answer buffer, which are 0
+// where it wrote none.
 //
 // Layouts: 0 is the usual one; 1, 2 and 3 are valid too; 4 has a face twice, 5 a slot turned four times, 6 only eleven bytes.
 //
 // Damage: 0 none; 1 the source is lent one byte short, 2 one byte more, which is 0; 3 the target is lent one byte short, 4 one byte more;
 // 5 the source's last two samples are 2^D; 6 its first sample is 65535.
+//
+// Behind a second heading, the line of one of the six calls holds its name, the numbers that it was given, the number of its refusal and the index,
+// and the numbers in its answer buffer, which are 0 where it wrote none: four of fold, one of equal, three of look_up.
 ghost use mathlib.Core.Path.{_≡_};
 ghost use Prim.Native.Nat.{_+_, _*_, _/_, _%_, _^_, _≤_, _<_, min};
 ghost use lib.ListN.{length};
 use cubemap::Place;
+use cubemap::Ray;
 use cubemap::Rotation;
 use cubemap::Shape;
 use libc::STDOUT_FILENO;
@@ -23,7 +28,7 @@ use libc::STDOUT_FILENO;
 // The most bytes that are lent: a frame of face size 512 and one byte more.
 const ROOM: usize = 3145729;
 
-// The most bytes of a line: 26 numbers, each with a sign, 20 digits and the byte behind them.
+// The most bytes of a line, which a conversion's has: 26 numbers, each with a sign, 20 digits and the byte behind them.
 const LINE: usize = 572;
 
 // Each byte of the target before the call.
@@ -244,8 +249,8 @@ fn convert(
 }
 
 // Four bytes of an answer as a number, the low one first.
-fn half_number(answer: &[u8; 16], at: usize) -> u64
-    requires { ⌜ at ≤ 12 ⌝ }
+fn half_number(answer: &[u8], at: usize) -> u64
+    requires { ⌜ at + 4 ≤ length (now answer) ⌝ }
     ensures { λ r. ⌜ r < 2 ^ 32 ⌝ }
 {
     let low = frame::wide(answer[at]) + 256 * frame::wide(answer[at + 1]);
@@ -254,8 +259,8 @@ fn half_number(answer: &[u8; 16], at: usize) -> u64
 }
 
 // Eight bytes of an answer as a number, the low one first.
-fn number_at(answer: &[u8; 16], at: usize) -> u64
-    requires { ⌜ at ≤ 8 ⌝ }
+fn number_at(answer: &[u8], at: usize) -> u64
+    requires { ⌜ at + 8 ≤ length (now answer) ⌝ }
 {
     half_number(answer, at) + 4294967296 * half_number(answer, at + 4)
 }
@@ -366,17 +371,17 @@ fn put_numbers(text: &mut [u8], at: usize, numbers: &[u64]) -> usize
     end
 }
 
-// A number of the turn, with a minus sign where it is negative, and a space behind it.
-fn put_signed(text: &mut [u8], at: usize, z: i64) -> usize
+// z with a minus sign where it is negative, and a byte behind it.
+fn put_signed(text: &mut [u8], at: usize, z: i64, behind: u8) -> usize
     requires { ⌜ at + 22 ≤ length (now text) ⌝ }
     ensures { λ r. ⌜ r ≤ at + 22 ⌝ }
 {
     let size = arithmetic::magnitude(z);
     if z < 0 {
         text[at] = b'-';
-        return put_number(text, at + 1, size, b' ');
+        return put_number(text, at + 1, size, behind);
     }
-    put_number(text, at, size, b' ')
+    put_number(text, at, size, behind)
 }
 
 // The turn's four numbers.
@@ -384,10 +389,10 @@ fn put_turn(text: &mut [u8], at: usize, turn: Rotation) -> usize
     requires { ⌜ at + 88 ≤ length (now text) ⌝ }
     ensures { λ r. ⌜ r ≤ at + 88 ⌝ }
 {
-    let second = put_signed(text, at, turn.e0);
-    let third = put_signed(text, second, turn.e1);
-    let fourth = put_signed(text, third, turn.e2);
-    put_signed(text, fourth, turn.e3)
+    let second = put_signed(text, at, turn.e0, b' ');
+    let third = put_signed(text, second, turn.e1, b' ');
+    let fourth = put_signed(text, third, turn.e2, b' ');
+    put_signed(text, fourth, turn.e3, b' ')
 }
 
 // Six samples.
@@ -633,6 +638,145 @@ fn left_out(case: Case) -> bool {
     mix & (outside(case.source_size) | outside(case.target_size))
 }
 
+// ---- the six calls of fold, equal and look_up, each with its line
+
+// A number in two's complement.
+fn signed(v: u64) -> i64 {
+    if v < 9223372036854775808 {
+        return v as i64;
+    }
+    -1 - ((u64::MAX - v) as i64)
+}
+
+// What stands behind a number: the line's end behind the last one, else a space.
+fn behind(last: bool) -> u8 {
+    if last { b'\n' } else { b' ' }
+}
+
+// What a call came to: the number of its refusal and the index, the numbers in its answer buffer, and the line's end.
+fn put_outcome(text: &mut [u8], at: usize, code: u64, answer: &[u8]) -> usize
+    requires { ⌜ at + 42 + 22 * (length (now answer) / 8) ≤ length (now text) ⌝ }
+    ensures { λ r. ⌜ r ≤ at + 42 + 22 * (length (now (answer .entry)) / 8) ⌝ }
+{
+    let numbers = [code % 256, code / 256];
+    let count = answer.len() / 8;
+    let mut end = put_numbers(text, at, &numbers);
+    let mut i = 0;
+    while i < count {
+        let z = signed(number_at(answer, 8 * i));
+        end = put_signed(text, end, z, behind(i + 1 == count));
+        i += 1;
+    }
+    end
+}
+
+// The numbers of two turns.
+fn put_turns(text: &mut [u8], at: usize, first: Rotation, second: Rotation) -> usize
+    requires { ⌜ at + 176 ≤ length (now text) ⌝ }
+    ensures { λ r. ⌜ r ≤ at + 176 ⌝ }
+{
+    let second_at = put_turn(text, at, first);
+    put_turn(text, second_at, second)
+}
+
+// The fold of two turns: its code.
+fn fold(first: Rotation, later: Rotation, answer: &mut [u8]) -> u64 {
+    welchodrys::welchodrys_fold(
+        first.e0,
+        first.e1,
+        first.e2,
+        first.e3,
+        later.e0,
+        later.e1,
+        later.e2,
+        later.e3,
+        answer,
+    )
+}
+
+// The line of a fold.
+fn put_fold(text: &mut [u8], first: Rotation, later: Rotation) -> usize
+    requires { ⌜ length (now text) ≡ 572 ⌝ }
+    ensures { λ r. ⌜ r ≤ 572 ⌝ }
+{
+    let mut answer = [0u8; 32];
+    let code = fold(first, later, &mut answer);
+    let turns_at = listing::put_bytes(text, 0, b"fold ");
+    let outcome_at = put_turns(text, turns_at, first, later);
+    put_outcome(text, outcome_at, code, &answer)
+}
+
+// The test whether two turns are equal: its code.
+fn equal(first: Rotation, second: Rotation, answer: &mut [u8]) -> u64 {
+    welchodrys::welchodrys_equal(
+        first.e0,
+        first.e1,
+        first.e2,
+        first.e3,
+        second.e0,
+        second.e1,
+        second.e2,
+        second.e3,
+        answer,
+    )
+}
+
+// The line of a test whether two turns are equal.
+fn put_equal(text: &mut [u8], first: Rotation, second: Rotation) -> usize
+    requires { ⌜ length (now text) ≡ 572 ⌝ }
+    ensures { λ r. ⌜ r ≤ 572 ⌝ }
+{
+    let mut answer = [0u8; 8];
+    let code = equal(first, second, &mut answer);
+    let turns_at = listing::put_bytes(text, 0, b"equal ");
+    let outcome_at = put_turns(text, turns_at, first, second);
+    put_outcome(text, outcome_at, code, &answer)
+}
+
+// A ray's three numbers.
+fn put_ray(text: &mut [u8], at: usize, ray: Ray) -> usize
+    requires { ⌜ at + 66 ≤ length (now text) ⌝ }
+    ensures { λ r. ⌜ r ≤ at + 66 ⌝ }
+{
+    let second = put_signed(text, at, ray.x, b' ');
+    let third = put_signed(text, second, ray.y, b' ');
+    put_signed(text, third, ray.z, b' ')
+}
+
+// The line of a look-up.
+fn put_look_up(text: &mut [u8], size: u64, format: u64, ray: Ray) -> usize
+    requires { ⌜ length (now text) ≡ 572 ⌝ }
+    ensures { λ r. ⌜ r ≤ 572 ⌝ }
+{
+    let mut answer = [0u8; 24];
+    let code = welchodrys::welchodrys_look_up(size, format, ray.x, ray.y, ray.z, &mut answer);
+    let cube = [size, format];
+    let cube_at = listing::put_bytes(text, 0, b"look_up ");
+    let ray_at = put_numbers(text, cube_at, &cube);
+    let outcome_at = put_ray(text, ray_at, ray);
+    put_outcome(text, outcome_at, code, &answer)
+}
+
+// The line of call i. The first three are the paper's P9, P10 and P11. In each of the last three, an exchange of two numbers of one type changes what
+// comes out. So does an exchange of fold's two turns; an exchange of equal's two turns cannot show, because equality is symmetric.
+fn put_call(text: &mut [u8], i: u64) -> usize
+    requires { ⌜ length (now text) ≡ 572 ⌝ }
+    ensures { λ r. ⌜ r ≤ 572 ⌝ }
+{
+    let about_x = turn_of(1, 1, 0, 0);
+    let about_y = turn_of(1, 0, 1, 0);
+    let long = turn_of(31, 1, 0, 0);
+    let ray = Ray { x: 10, y: -3, z: 9 };
+    match i {
+        0 => put_fold(text, about_x, about_y),
+        1 => put_fold(text, about_y, about_x),
+        2 => put_fold(text, long, long),
+        3 => put_fold(text, turn_of(1, 2, 3, 4), turn_of(5, 6, 7, 8)),
+        4 => put_equal(text, turn_of(1, 2, 4, 5), turn_of(-3, -6, -12, -15)),
+        _ => put_look_up(text, 4, 1, ray),
+    }
+}
+
 // ---- printing: each function says whether all was written
 
 // Runs a conversion that is not left out, and prints its line.
@@ -660,8 +804,8 @@ fn print_group(group: u64, source: &mut [u8; ROOM], target: &mut [u8; ROOM]) -> 
     true
 }
 
-// The heading, then the groups 1 to 7.
-fn print_all(source: &mut [u8; ROOM], target: &mut [u8; ROOM]) -> bool {
+// The heading of the conversions, then the groups 1 to 7.
+fn print_conversions(source: &mut [u8; ROOM], target: &mut [u8; ROOM]) -> bool {
     let mut written = io::write_all(
         STDOUT_FILENO,
         b"source target depth formats sampler layouts turn damage number index digest samples score score-index errors weights\n",
@@ -675,6 +819,35 @@ fn print_all(source: &mut [u8; ROOM], target: &mut [u8; ROOM]) -> bool {
         group += 1;
     }
     written
+}
+
+// Makes call i, and prints its line.
+fn print_call(i: u64) -> bool {
+    let mut text = [0u8; LINE];
+    let end = put_call(&mut text, i);
+    io::write_all(STDOUT_FILENO, &text[..end])
+}
+
+// The heading of the six calls, then their lines.
+fn print_calls() -> bool {
+    let mut written = io::write_all(STDOUT_FILENO, b"call parameters number index answer\n");
+    let mut i = 0;
+    while i < 6 {
+        if !written {
+            return false;
+        }
+        written = print_call(i);
+        i += 1;
+    }
+    written
+}
+
+// Both parts.
+fn print_all(source: &mut [u8; ROOM], target: &mut [u8; ROOM]) -> bool {
+    if !print_conversions(source, target) {
+        return false;
+    }
+    print_calls()
 }
 
 fn main() {

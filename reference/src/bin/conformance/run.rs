@@ -15,8 +15,8 @@ const BEFORE: u8 = 165;
 /// the six samples; then the score's number, its index and its two sums. All are decimal, with single spaces.
 pub fn line(case: &Case) -> String {
     let (source, mut target) = (source(case), target(case));
-    let code = converted(case, &source, &mut target);
-    let (score_code, [errors, weights]) = scored(case, &source, &target);
+    let code = convert(convert_arguments(case, &source), &mut target);
+    let (score_code, [errors, weights]) = scored(score_arguments(case, &source, &target));
     let settings =
         [case.source_size, case.target_size, case.depth, case.source_format, case.target_format, case.sampler].map(decimal);
     let (layouts, rotation) = (case.layouts.map(decimal), case.rotation.map(decimal));
@@ -30,9 +30,9 @@ fn decimal(number: impl ToString) -> String {
     number.to_string()
 }
 
-/// What the conversion returns.
-fn converted(case: &Case, source: &[u8], target: &mut [u8]) -> u64 {
-    let arguments = ConvertArguments {
+/// What the conversion is told and lent.
+pub fn convert_arguments<'lent>(case: &Case, source: &'lent [u8]) -> ConvertArguments<'lent> {
+    ConvertArguments {
         source_size: case.source_size,
         target_size: case.target_size,
         depth: case.depth,
@@ -43,14 +43,13 @@ fn converted(case: &Case, source: &[u8], target: &mut [u8]) -> u64 {
         target_layout: LAYOUTS[case.layouts[1]],
         rotation: case.rotation,
         source,
-    };
-    convert(arguments, target)
+    }
 }
 
-/// What the score returns that is made right after the conversion, of the source with the target as it is then, with the source's
-/// size and format; and the two numbers in the answer buffer afterwards, whose 16 bytes are 0 before.
-fn scored(case: &Case, source: &[u8], target: &[u8]) -> (u64, [u64; 2]) {
-    let arguments = ScoreArguments {
+/// What the score is told and lent that is made right after the conversion, of the source with the target as it is then, with the
+/// source's size and format.
+pub fn score_arguments<'lent>(case: &Case, source: &'lent [u8], target: &'lent [u8]) -> ScoreArguments<'lent> {
+    ScoreArguments {
         size: case.source_size,
         depth: case.depth,
         format: case.source_format,
@@ -58,7 +57,11 @@ fn scored(case: &Case, source: &[u8], target: &[u8]) -> (u64, [u64; 2]) {
         second_layout: LAYOUTS[case.layouts[1]],
         first: source,
         second: target,
-    };
+    }
+}
+
+/// What a score returns, and the two numbers in the answer buffer afterwards, whose 16 bytes are 0 before.
+pub fn scored(arguments: ScoreArguments) -> (u64, [u64; 2]) {
     let mut answer = [[0; 8]; 2];
     let code = score(arguments, answer.as_flattened_mut());
     (code, answer.map(u64::from_le_bytes))
@@ -80,7 +83,7 @@ fn lent_bytes(size: u64) -> u64 {
 }
 
 /// The sample at index i is floor(i · 2654435761 / 65536) mod 2^D, two bytes, little-endian; then comes the damage.
-fn source(case: &Case) -> Vec<u8> {
+pub fn source(case: &Case) -> Vec<u8> {
     let sample = |index: u64| (index * 2_654_435_761 / 65_536 % (1 << case.depth)) as u16;
     let mut samples: Vec<u16> = (0..lent_bytes(case.source_size) / 2).map(sample).collect();
     match case.damage {
@@ -98,7 +101,7 @@ fn source(case: &Case) -> Vec<u8> {
 }
 
 /// The target as it is lent.
-fn target(case: &Case) -> Vec<u8> {
+pub fn target(case: &Case) -> Vec<u8> {
     let whole = lent_bytes(case.target_size) as usize;
     let length = match case.damage {
         Damage::TargetShort => whole - 1,
@@ -109,6 +112,6 @@ fn target(case: &Case) -> Vec<u8> {
 }
 
 /// 0 before the first byte; then for each byte, in order, 257 times the digest so far, and the byte, and 1, mod 4294967291.
-fn digest(bytes: &[u8]) -> u64 {
+pub fn digest(bytes: &[u8]) -> u64 {
     bytes.iter().fold(0, |digest, &byte| (digest * 257 + u64::from(byte) + 1) % 4_294_967_291)
 }

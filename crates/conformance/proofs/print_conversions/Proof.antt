@@ -1,8 +1,8 @@
--- `print_all` meets its contract: it ends, since the group rises to 8.
+-- `print_conversions` meets its contract: it ends, since the group rises to 8.
 use Prim.Native.Nat.{_-_, _≤_}
 use borrow.Author.Needs.{needs}
-use Rattle.conformance.proofs.print_all.Statement.{statement}
-use Rattle.conformance.proofs.print_all.Tie as tie
+use Rattle.conformance.proofs.print_conversions.Statement.{statement}
+use Rattle.conformance.proofs.print_conversions.Tie as tie
 
 abbrev Inv-loop : tie.InvT-loop
 Inv-loop source₀ target₀ written₀ group₀ source target written group = group ≤ 8
@@ -37,8 +37,8 @@ loop-again c = search needs
 returns-2 : tie.Need-returns-2 Inv-loop μ-loop
 returns-2 c = search needs
 
-pub print-all-spec : {M : Type 1} → statement M
-print-all-spec =
+pub print-conversions-spec : {M : Type 1} → statement M
+print-conversions-spec =
     tie.close
     (tie.spec
     Inv-loop
