@@ -37,7 +37,7 @@ examples = record {
   moved = refl;
   led = refl;
   layout = refl;
-  told-alike = λ c returned after. refl;
+  told-alike = λ c d s m n. λ i. record { settings = s i; sourceLength = m i; targetLength = n i };
   says-0 = λ after. refl;
   says-1 = λ after. refl;
   beyond = refl;

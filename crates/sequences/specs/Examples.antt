@@ -4,7 +4,7 @@ use mathlib.Core.Bool.{cond}
 use mathlib.Core.List.{List, [], _∷_}
 use Prim.Native.Nat.{ℕ, _+_}
 use lib.Dec.{eqb}
-use lib.ListN.{replicate}
+use lib.ListN.{length, replicate}
 use lib.IntN.{pos}
 use Rattle.cubemap.specs.declared.Rotation.{Rotation}
 use Rattle.cubemap.specs.declared.Shape.{Shape}
@@ -94,8 +94,9 @@ pub record Examples : Type 0 where
       ≡ place 5 0 0 ∷ place 4 0 0 ∷ place 0 0 0 ∷ place 1 0 0 ∷ place 3 0 0 ∷ place 2 0 0 ∷ []
   -- "in the target's layout"
   pub layout : last .frame .layout ≡ usualLayout
-  -- "never with what a call answers or writes"
-  pub told-alike : (c : ConvertCall) (returned : ℕ) (after : List ℕ) → told (saying c returned after) ≡ told c
+  -- "fed .. with each call's settings, turn and buffer lengths, never with what a call answers or writes"
+  pub told-alike : (c d : ConvertCall) → c .settings ≡ d .settings → length (c .source) ≡ length (d .source) → length (c .target) ≡ length (d .target)
+      → told c ≡ told d
   -- nor does that decide which frame is left: a refused call that says 0 and writes leaves the frame, an accepted one that says 1 leaves what it wrote
   pub says-0 : (after : List ℕ) → leftBy first (saying call2 0 after) ≡ first
   pub says-1 : (after : List ℕ) → leftBy first (saying call1 1 after) ≡ record { shape = small; layout = usualLayout; bytes = after }
