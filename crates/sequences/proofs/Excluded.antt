@@ -2,6 +2,7 @@
 -- tells them apart.
 -- Assumes nothing.
 use mathlib.Core.Path.{_≡_, refl, sym, _∙_, ap, subst}
+use mathlib.Core.Bool.{not}
 use mathlib.Core.Logic.{inl, inr}
 use mathlib.Core.List.{List, [], _∷_}
 use Prim.Native.Nat.{ℕ}
@@ -10,8 +11,8 @@ use lib.Dec.{T}
 use lib.ListN.{getD, replicate}
 use Rattle.arithmetic.specs.Searches.{largest, lowestFrom, allBelow}
 use Rattle.arithmetic.specs.Sums.{sumBelow}
-use Rattle.arithmetic.proofs.Tests.{cond-true}
-use Rattle.cubemap.specs.Interface.{returnCode, putAt, putAll}
+use Rattle.arithmetic.proofs.Tests.{cond-true, cond-false}
+use Rattle.cubemap.specs.Interface.{answer, isAccepted, returnCode, putAt, putAll}
 use Rattle.cubemap.specs.Frames.{Frame, shapeOf, framed, samplesIn, bytesIn, usualLayout, slotOf, quarterTurns, indexInSlot, index}
 use Rattle.cubemap.specs.Frames.{placeNumbered, placeAt}
 use Rattle.cubemap.specs.PlaceToRay.{times, table3, rayOf}
@@ -27,10 +28,11 @@ use Rattle.cubemap.specs.Promises.{ConvertCall, convertCall, ConvertPromise, Sc
 use Rattle.cubemap.specs.Marked.{cmp, rotationℕ}
 use Rattle.sequences.specs.Steps.{ledTo}
 use Rattle.sequences.specs.Model.{told, toldAll, answerTo, accepts, movedFrame, afterCall, afterCalls, modelOf}
-use Rattle.sequences.specs.Runs.{leftBy, lastFrame, Each, OwnCubeTurn, Converter, Among, Keeping, Run}
-use Rattle.sequences.specs.Demand3.{Answered, Scorer, scoring, paperScore, Given, Demand3}
+use Rattle.sequences.specs.Runs.{leftBy, lastFrame, Each, passesBeforeSamples, OwnCubeTurn, Converter, Among, Keeping, Run}
+use Rattle.sequences.specs.Demand3.{Answers, Answered, Scorer, scoring, paperScore, Given, Demand3}
 use Rattle.sequences.proofs.Histories.{all-among, reads-whole}
-use Rattle.sequences.specs.Excluded.{Leaves, Writes, Copies, TurnsFirst, TurnsOnly, TurnsUntilAnother, Grey, WritesNothing, Answers1}
+use Rattle.sequences.specs.Excluded.{Leaves, LeavesTarget, codeOf, Writes, Copies, TurnsFirst, TurnsOnly, TurnsUntilAnother, Grey, WritesNothing, Answers1}
+use Rattle.sequences.specs.Excluded.{BlanksSource, BlanksSourceLayout, BlanksTargetLayout, BlanksRefused}
 use Rattle.sequences.specs.Excluded.{ScoreLeaves, Invents, BlanksFirst, BlanksSecond, BlanksFirstLayout, BlanksSecondLayout}
 use Rattle.sequences.specs.Excluded.{Excluded, BreakPromises}
 
@@ -51,12 +53,25 @@ once = 11 ∷ 0 ∷ 12 ∷ 0 ∷ 14 ∷ 0 ∷ 13 ∷ 0 ∷ 10 ∷ 0 ∷ 15 ∷ 0
 abbrev twice : List ℕ
 twice = 12 ∷ 0 ∷ 14 ∷ 0 ∷ 10 ∷ 0 ∷ 13 ∷ 0 ∷ 11 ∷ 0 ∷ 15 ∷ 0 ∷ []
 
-abbrev room : List ℕ
-room = replicate 12 0
+-- another frame
+abbrev another : List ℕ
+another = framed (λ i. 20) 6
 
--- a call of a wrong converter: what it returned, and what it left in the target
+abbrev room : List ℕ
+room = replicate 12 7
+
+-- 12 bytes 0
+abbrev blanked : List ℕ
+blanked = replicate 12 0
+
+-- a call of a wrong converter: what it returned, and what it left in the target, the source and the two layouts
+abbrev leaving-all : List ℕ → ℕ → List ℕ → List ℕ → List ℕ → List ℕ → ConvertCall
+leaving-all source returned after sourceAfter sourceLayoutAfter targetLayoutAfter =
+    convertCall settings source room returned sourceLayoutAfter targetLayoutAfter sourceAfter after
+
+-- and of one that keeps what it only reads
 abbrev call : List ℕ → ℕ → List ℕ → ConvertCall
-call source returned after = convertCall settings source room returned usualLayout usualLayout source after
+call source returned after = leaving-all source returned after source usualLayout usualLayout
 
 head : List ℕ → ℕ
 head bytes = getD bytes 0 0
@@ -69,12 +84,14 @@ record Computed : Type 0 where
   -- one call on the first frame is accepted, and the model turns the frame, whatever the call returned and left
   accepted-once : (returned : ℕ) (after : List ℕ) → T (accepts (told (call first returned after)) first)
   answer-once : (returned : ℕ) (after : List ℕ) → returnCode (answerTo (told (call first returned after)) first) ≡ 0
-  left-once : (returned : ℕ) (after : List ℕ) → lastFrame (frame first) (call first returned after ∷ []) ≡ frame after
-  model-once : (returned : ℕ) (after : List ℕ) → modelOf (frame first) (call first returned after ∷ []) .frame ≡ frame once
+  left-once : (returned : ℕ) (after sourceAfter L M : List ℕ)
+      → lastFrame (frame first) (leaving-all first returned after sourceAfter L M ∷ []) ≡ frame after
+  model-once : (returned : ℕ) (after sourceAfter L M : List ℕ)
+      → modelOf (frame first) (leaving-all first returned after sourceAfter L M ∷ []) .frame ≡ frame once
   -- a call that keeps the promise, and one behind it that copies
   keeps : ConvertPromise (call first 0 once)
   copies : Copies (call once 0 once)
-  copies-another : Copies (call (framed (λ i. 20) 6) 0 (framed (λ i. 20) 6))
+  copies-another : Copies (call another 0 another)
   between : leftBy (frame first) (call first 0 once) ≡ frame once
   left-twice : lastFrame (frame first) both ≡ frame once
   model-twice : modelOf (frame first) both .frame ≡ frame twice
@@ -90,11 +107,11 @@ unfolding lowestFrom allBelow sumBelow
 computed = record {
   accepted-once = λ returned after. tt;
   answer-once = λ returned after. refl;
-  left-once = λ returned after. refl;
-  model-once = λ returned after. refl;
+  left-once = λ returned after sourceAfter L M. refl;
+  model-once = λ returned after sourceAfter L M. refl;
   keeps = record { gives = record { returns = refl; holds = refl }; source-stays = refl; source-layout-stays = refl; target-layout-stays = refl };
-  copies = record { returns = refl; holds = refl; source-stays = refl; source-layout-stays = refl; target-layout-stays = refl };
-  copies-another = record { returns = refl; holds = refl; source-stays = refl; source-layout-stays = refl; target-layout-stays = refl };
+  copies = record { returns = refl; target-holds = refl; source-holds = refl; source-layout-holds = refl; target-layout-holds = refl };
+  copies-another = record { returns = refl; target-holds = refl; source-holds = refl; source-layout-holds = refl; target-layout-holds = refl };
   between = refl;
   left-twice = refl;
   model-twice = refl;
@@ -106,56 +123,142 @@ quarter : (bytes : List ℕ) → OwnCubeTurn (frame bytes) settings
 unfolding isCubeRotation sumOfSquares targetShape
 quarter bytes = record { own-shape = refl; own-layout = refl; same-shape = refl; cube = tt }
 
-module _ (M : Converter) (S : Scorer) (D : Demand3 M S) (returned : ℕ) (after : List ℕ) (made : M (call first returned after ∷ [])) where
-  run : Run M (frame first) (call first returned after ∷ [])
+module _ (M : Converter) (S : Scorer) (D : Demand3 M S) (returned : ℕ) (after sourceAfter sourceLayoutAfter targetLayoutAfter : List ℕ)
+    (made : M (leaving-all first returned after sourceAfter sourceLayoutAfter targetLayoutAfter ∷ [])) where
+  abbrev made-call : ConvertCall
+  made-call = leaving-all first returned after sourceAfter sourceLayoutAfter targetLayoutAfter
+
+  run : Run M (frame first) (leaving-all first returned after sourceAfter sourceLayoutAfter targetLayoutAfter ∷ [])
   unfolding Each
   run = record {
-    history = call first returned after ∷ [];
+    history = made-call ∷ [];
     made = made;
-    among = all-among (call first returned after ∷ []);
-    reads = (reads-whole (frame first) (call first returned after) refl, tt);
+    among = all-among (made-call ∷ []);
+    reads = (reads-whole (frame first) made-call refl, tt);
     own = ((λ t. quarter first), tt);
   }
 
-  must-return : returned ≡ 0
+  must-answer : Answers first (leaving-all first returned after sourceAfter sourceLayoutAfter targetLayoutAfter)
   unfolding Answered
-  must-return = D .kept (frame first) (call first returned after ∷ []) run .answered .0 .returns ∙ computed .answer-once returned after
+  must-answer = D .kept (frame first) (made-call ∷ []) run .answered .0
+
+  must-return : returned ≡ 0
+  must-return = must-answer .returns ∙ computed .answer-once returned after
 
   must-leave : after ≡ once
   must-leave = ap (λ F. F .bytes)
-      (sym (computed .left-once returned after) ∙ D .kept (frame first) (call first returned after ∷ []) run .frame ∙ computed .model-once returned after)
+      (sym (computed .left-once returned after sourceAfter sourceLayoutAfter targetLayoutAfter) ∙ D .kept (frame first) (made-call ∷ []) run .frame
+      ∙ computed .model-once returned after sourceAfter sourceLayoutAfter targetLayoutAfter)
 
 -- a call on the first frame that answers as it must
 writes : (bytes : List ℕ) → Writes bytes (call first 0 bytes)
 writes bytes = record {
   returns = sym (computed .answer-once 0 bytes);
-  holds = sym (cond-true (accepts (told (call first 0 bytes)) first) bytes room (computed .accepted-once 0 bytes));
-  source-stays = refl;
-  source-layout-stays = refl;
-  target-layout-stays = refl;
+  target-holds = sym (cond-true (accepts (told (call first 0 bytes)) first) bytes room (computed .accepted-once 0 bytes));
+  source-holds = refl;
+  source-layout-holds = refl;
+  target-layout-holds = refl;
 }
 
 -- ---- the converters
 
 no-copies : (S : Scorer) → Demand3 (Keeping Copies) S → ⊥
 unfolding head Keeping
-no-copies S D = absurd (omega (arith, ap head (must-leave (Keeping Copies) S D 0 first (writes first, tt))))
+no-copies S D = absurd (omega (arith, ap head (must-leave (Keeping Copies) S D 0 first first usualLayout usualLayout (writes first, tt))))
+
+abbrev grey : List ℕ
+grey = framed (λ i. 128) 6
 
 no-grey : (S : Scorer) → Demand3 (Keeping Grey) S → ⊥
 unfolding head Keeping framed
-no-grey S D = absurd (omega (arith, ap head (must-leave (Keeping Grey) S D 0 (framed (λ i. 128) 6) (writes (framed (λ i. 128) 6), tt))))
+no-grey S D = absurd (omega (arith, ap head (must-leave (Keeping Grey) S D 0 grey first usualLayout usualLayout (writes grey, tt))))
 
 -- a call that leaves the target as it was
-nothing : (code : ℕ) → Leaves code room (call first code room)
-nothing code = record { returns = refl; holds = refl; source-stays = refl; source-layout-stays = refl; target-layout-stays = refl }
+nothing : (code : ℕ) → LeavesTarget code room (call first code room)
+nothing code = record { returns = refl; target-holds = refl; source-holds = refl; source-layout-holds = refl; target-layout-holds = refl }
 
 writes-something : (S : Scorer) → Demand3 (Keeping WritesNothing) S → ⊥
 unfolding head Keeping
-writes-something S D = absurd (omega (arith, ap head (must-leave (Keeping WritesNothing) S D 0 room (writes room, tt))))
+writes-something S D = absurd (omega (arith, ap head (must-leave (Keeping WritesNothing) S D 0 room first usualLayout usualLayout (writes room, tt))))
 
 not-always-1 : (S : Scorer) → Demand3 (Keeping Answers1) S → ⊥
 unfolding Keeping
-not-always-1 S D = absurd (omega (arith, must-return (Keeping Answers1) S D 1 room (nothing 1, tt)))
+not-always-1 S D = absurd (omega (arith, must-return (Keeping Answers1) S D 1 room first usualLayout usualLayout (nothing 1, tt)))
+
+-- ---- those that blank what they only read, or the target of a refused call
+
+no-blank-frame : blanked ≡ first → ⊥
+unfolding head
+no-blank-frame e = absurd (omega (arith, ap head e))
+
+no-blank-layout : blanked ≡ usualLayout → ⊥
+unfolding head
+no-blank-layout e = absurd (omega (arith, ap head e))
+
+-- a call that answers and writes as it must
+writing-once : (sourceAfter sourceLayoutAfter targetLayoutAfter : List ℕ)
+    → Leaves (codeOf (call first 0 once)) (convertOutcome settings first room .bytes) sourceAfter sourceLayoutAfter targetLayoutAfter
+    (leaving-all first 0 once sourceAfter sourceLayoutAfter targetLayoutAfter)
+writing-once sourceAfter sourceLayoutAfter targetLayoutAfter = record {
+  returns = sym (computed .answer-once 0 once);
+  target-holds = computed .keeps .gives .holds;
+  source-holds = refl;
+  source-layout-holds = refl;
+  target-layout-holds = refl;
+}
+
+no-blanks-source : (S : Scorer) → Demand3 (Keeping BlanksSource) S → ⊥
+unfolding Keeping
+no-blanks-source S D = no-blank-frame
+    (must-answer (Keeping BlanksSource) S D 0 once blanked usualLayout usualLayout (writing-once blanked usualLayout usualLayout, tt) .source-stays)
+
+no-blanks-source-layout : (S : Scorer) → Demand3 (Keeping BlanksSourceLayout) S → ⊥
+unfolding Keeping
+no-blanks-source-layout S D = no-blank-layout
+    (must-answer (Keeping BlanksSourceLayout) S D 0 once first blanked usualLayout (writing-once first blanked usualLayout, tt) .source-layout-stays)
+
+no-blanks-target-layout : (S : Scorer) → Demand3 (Keeping BlanksTargetLayout) S → ⊥
+unfolding Keeping
+no-blanks-target-layout S D = no-blank-layout
+    (must-answer (Keeping BlanksTargetLayout) S D 0 once first usualLayout blanked (writing-once first usualLayout blanked, tt) .target-layout-stays)
+
+-- a call that names face size 0
+abbrev refused-call : ConvertCall
+refused-call =
+    convertCall (convertSettings (shapeOf 0 8 cmp) 1 cmp 0 usualLayout usualLayout (rotationℕ 1 0 1 0)) first room 1 usualLayout usualLayout first blanked
+
+refused-1 : (bytes : List ℕ) → answerTo (told refused-call) bytes ≡ answer 1 0
+unfolding firstFailed sizeOK sizeChecks settingChecks lengthChecks beforeSamples convertChecks convertAnswer
+refused-1 bytes = refl
+
+not-taken : (bytes : List ℕ) → T (accepts (told refused-call) bytes) → ⊥
+not-taken bytes t = subst (λ a. T (isAccepted a)) (refused-1 bytes) t
+
+refused-before : T (passesBeforeSamples (told refused-call)) → ⊥
+unfolding firstFailed sizeOK sizeChecks settingChecks lengthChecks beforeSamples
+refused-before t = t
+
+no-blanks-refused : (S : Scorer) → Demand3 (Keeping BlanksRefused) S → ⊥
+unfolding head Keeping Each Answered
+no-blanks-refused S D = absurd (omega (
+  arith,
+  ap head (D .kept (frame first) (refused-call ∷ []) (record {
+    history = refused-call ∷ [];
+    made = (
+      record {
+        returns = sym (ap returnCode (refused-1 first));
+        target-holds = sym (cond-false (accepts (told refused-call) first) _ blanked (not-taken first));
+        source-holds = refl;
+        source-layout-holds = refl;
+        target-layout-holds = refl;
+      },
+      tt,
+    );
+    among = all-among (refused-call ∷ []);
+    reads = (record { whole = λ t. absurd (not-taken first t); part = λ t. absurd (refused-before t) }, tt);
+    own = ((λ t. absurd (not-taken first t)), tt);
+  }) .answered .0 .target-stays (subst (λ a. T (not (isAccepted a))) (sym (refused-1 first)) tt)),
+))
 
 -- ---- those that copy later: a second quarter turn
 
@@ -183,9 +286,6 @@ unfolding TurnsFirst Keeping
 no-turns-first S D = must-turn-twice TurnsFirst S D both (computed .keeps, (computed .copies, tt)) (all-among both)
 
 -- another frame comes between
-abbrev another : List ℕ
-another = framed (λ i. 20) 6
-
 abbrev with-another : List ConvertCall
 with-another = call first 0 once ∷ call another 0 another ∷ call once 0 once ∷ []
 
@@ -265,18 +365,6 @@ leaving firstAfter secondAfter firstLayoutAfter secondLayoutAfter = record {
   second-layout-holds = refl;
 }
 
--- 12 bytes 0
-abbrev blanked : List ℕ
-blanked = replicate 12 0
-
-no-blank-frame : blanked ≡ first → ⊥
-unfolding head
-no-blank-frame e = absurd (omega (arith, ap head e))
-
-no-blank-layout : blanked ≡ usualLayout → ⊥
-unfolding head
-no-blank-layout e = absurd (omega (arith, ap head e))
-
 no-blanks-first : (M : Converter) → Demand3 M BlanksFirst → ⊥
 no-blanks-first M D = no-blank-frame
     (must-give M BlanksFirst D paper-sums blanked first usualLayout usualLayout (leaving blanked first usualLayout usualLayout) .first-stays)
@@ -301,6 +389,10 @@ excluded = record {
   grey = no-grey;
   writes-nothing = writes-something;
   answers-1 = not-always-1;
+  blanks-source = no-blanks-source;
+  blanks-source-layout = no-blanks-source-layout;
+  blanks-target-layout = no-blanks-target-layout;
+  blanks-refused = no-blanks-refused;
   invents = no-invents;
   blanks-first = no-blanks-first;
   blanks-second = no-blanks-second;
@@ -318,7 +410,7 @@ pub break-promises : BreakPromises
 unfolding head framed
 break-promises = record {
   copies = λ h. absurd (omega (arith, ap head (promised 0 first (h _ (writes first)) .1)));
-  grey = λ h. absurd (omega (arith, ap head (promised 0 (framed (λ i. 128) 6) (h _ (writes (framed (λ i. 128) 6))) .1)));
+  grey = λ h. absurd (omega (arith, ap head (promised 0 grey (h _ (writes grey)) .1)));
   writes-nothing = λ h. absurd (omega (arith, ap head (promised 0 room (h _ (writes room)) .1)));
   answers-1 = λ h. absurd (omega (arith, promised 1 room (h _ (nothing 1)) .0));
   invents = λ h. absurd (omega (

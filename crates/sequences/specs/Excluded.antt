@@ -1,5 +1,5 @@
 -- "Nearest to slipping through": the wrong converters that the paper names, and a score with an invented sum; beside them one that another frame puts
--- off, and scores that spoil what they read. Demand 3 is false of each; and of those that are wrong call by call, so is the promise.
+-- off, and converters and scores that spoil what they read. Demand 3 is false of each; and of those that are wrong call by call, so is the promise.
 use mathlib.Core.Path.{_≡_}
 use mathlib.Core.Bool.{cond}
 use mathlib.Core.Logic.{_⊎_}
@@ -9,23 +9,33 @@ use Rattle.cubemap.specs.Interface.{formatOf, returnCode}
 use Rattle.cubemap.specs.Frames.{Frame, framed, planeSamples}
 use Rattle.cubemap.specs.Score.{weightSum}
 use Rattle.cubemap.specs.Checks.{firstFailed, scoreChecks}
-use Rattle.cubemap.specs.Outcomes.{Result, ifAccepted, scoreValues, scoreResult, written}
+use Rattle.cubemap.specs.Outcomes.{Result, ifAccepted, scoreValues, convertOutcome, scoreResult, written}
 use Rattle.cubemap.specs.Promises.{Gives, ConvertCall, ConvertPromise, ScoreCall, ScorePromise}
 use Rattle.sequences.specs.Model.{told, answerTo, accepts}
 use Rattle.sequences.specs.Runs.{leftBy, Converter, Keeping}
 use Rattle.sequences.specs.Demand3.{Scorer, Demand3}
 
--- a call that returns `code`, leaves `after` in its target, and keeps what it only reads
-pub record Leaves (code : ℕ) (after : List ℕ) (c : ConvertCall) : Type 0 where
+-- ---- converters
+
+-- a call that returns `code`, and what each lent buffer holds then
+pub record Leaves (code : ℕ) (target source sourceLayout targetLayout : List ℕ) (c : ConvertCall) : Type 0 where
   pub returns : c .returned ≡ code
-  pub holds : c .targetAfter ≡ after
-  pub source-stays : c .sourceAfter ≡ c .source
-  pub source-layout-stays : c .sourceLayoutAfter ≡ c .settings .sourceLayout
-  pub target-layout-stays : c .targetLayoutAfter ≡ c .settings .targetLayout
+  pub target-holds : c .targetAfter ≡ target
+  pub source-holds : c .sourceAfter ≡ source
+  pub source-layout-holds : c .sourceLayoutAfter ≡ sourceLayout
+  pub target-layout-holds : c .targetLayoutAfter ≡ targetLayout
+
+-- one that keeps what it only reads
+abbrev pub LeavesTarget : ℕ → List ℕ → ConvertCall → Type 0
+LeavesTarget code target c = Leaves code target (c .source) (c .settings .sourceLayout) (c .settings .targetLayout) c
+
+-- what a call must return
+abbrev pub codeOf : ConvertCall → ℕ
+codeOf c = returnCode (answerTo (told c) (c .source))
 
 -- a call that answers each question as it must, and writes `bytes` where it accepts
 abbrev pub Writes : List ℕ → ConvertCall → Type 0
-Writes bytes c = Leaves (returnCode (answerTo (told c) (c .source))) (cond (accepts (told c) (c .source)) bytes (c .target)) c
+Writes bytes c = LeavesTarget (codeOf c) (cond (accepts (told c) (c .source)) bytes (c .target)) c
 
 -- "a converter that copies the frame and ignores the turn"
 abbrev pub Copies : ConvertCall → Type 0
@@ -57,7 +67,29 @@ WritesNothing c = Writes (c .target) c
 
 -- "one that answers 1 to everything"
 abbrev pub Answers1 : ConvertCall → Type 0
-Answers1 c = Leaves 1 (c .target) c
+Answers1 c = LeavesTarget 1 (c .target) c
+
+-- converters that answer and write as they must, and blank what they only read: the source, its layout or the target's
+abbrev blank : List ℕ → List ℕ
+blank bytes = map (λ b. 0) bytes
+
+abbrev trueTarget : ConvertCall → List ℕ
+trueTarget c = convertOutcome (c .settings) (c .source) (c .target) .bytes
+
+abbrev pub BlanksSource : ConvertCall → Type 0
+BlanksSource c = Leaves (codeOf c) (trueTarget c) (blank (c .source)) (c .settings .sourceLayout) (c .settings .targetLayout) c
+
+abbrev pub BlanksSourceLayout : ConvertCall → Type 0
+BlanksSourceLayout c = Leaves (codeOf c) (trueTarget c) (c .source) (blank (c .settings .sourceLayout)) (c .settings .targetLayout) c
+
+abbrev pub BlanksTargetLayout : ConvertCall → Type 0
+BlanksTargetLayout c = Leaves (codeOf c) (trueTarget c) (c .source) (c .settings .sourceLayout) (blank (c .settings .targetLayout)) c
+
+-- one that blanks the target of a call that it refuses
+abbrev pub BlanksRefused : ConvertCall → Type 0
+BlanksRefused c = LeavesTarget (codeOf c) (cond (accepts (told c) (c .source)) (trueTarget c) (blank (c .target))) c
+
+-- ---- scorers
 
 -- a score call that gives the result r, and what each buffer that it only reads holds then
 pub record ScoreLeaves (r : Result) (first second firstLayout secondLayout : List ℕ) (c : ScoreCall) : Type 0 where
@@ -77,9 +109,6 @@ abbrev pub Invents : Scorer
 Invents c = ScoreLeaves (invented c) (c .first) (c .second) (c .settings .firstLayout) (c .settings .secondLayout) c
 
 -- scorers that give the paper's score and blank what they only read: the first frame, the second, the first layout or the second
-abbrev blank : List ℕ → List ℕ
-blank bytes = map (λ b. 0) bytes
-
 abbrev trueScore : ScoreCall → Result
 trueScore c = scoreResult (c .settings) (c .first) (c .second)
 
@@ -95,7 +124,8 @@ BlanksFirstLayout c = ScoreLeaves (trueScore c) (c .first) (c .second) (blank (c
 abbrev pub BlanksSecondLayout : Scorer
 BlanksSecondLayout c = ScoreLeaves (trueScore c) (c .first) (c .second) (c .settings .firstLayout) (blank (c .settings .secondLayout)) c
 
--- what demand 3 excludes
+-- ---- what demand 3 excludes
+
 pub record Excluded : Type 1 where
   pub copies : (S : Scorer) → Demand3 (Keeping Copies) S → ⊥
   pub turns-first : (S : Scorer) → Demand3 TurnsFirst S → ⊥
@@ -103,13 +133,18 @@ pub record Excluded : Type 1 where
   pub grey : (S : Scorer) → Demand3 (Keeping Grey) S → ⊥
   pub writes-nothing : (S : Scorer) → Demand3 (Keeping WritesNothing) S → ⊥
   pub answers-1 : (S : Scorer) → Demand3 (Keeping Answers1) S → ⊥
+  pub blanks-source : (S : Scorer) → Demand3 (Keeping BlanksSource) S → ⊥
+  pub blanks-source-layout : (S : Scorer) → Demand3 (Keeping BlanksSourceLayout) S → ⊥
+  pub blanks-target-layout : (S : Scorer) → Demand3 (Keeping BlanksTargetLayout) S → ⊥
+  pub blanks-refused : (S : Scorer) → Demand3 (Keeping BlanksRefused) S → ⊥
   pub invents : (M : Converter) → Demand3 M Invents → ⊥
   pub blanks-first : (M : Converter) → Demand3 M BlanksFirst → ⊥
   pub blanks-second : (M : Converter) → Demand3 M BlanksSecond → ⊥
   pub blanks-first-layout : (M : Converter) → Demand3 M BlanksFirstLayout → ⊥
   pub blanks-second-layout : (M : Converter) → Demand3 M BlanksSecondLayout → ⊥
 
--- what demand 2 excludes: such a call need not keep convert's promise, or score's
+-- ---- what demand 2 excludes: such a call need not keep convert's promise, or score's
+
 pub record BreakPromises : Type 0 where
   pub copies : ((c : ConvertCall) → Copies c → ConvertPromise c) → ⊥
   pub grey : ((c : ConvertCall) → Grey c → ConvertPromise c) → ⊥
