@@ -1,7 +1,7 @@
 # `make` proves the crates, builds the archive and the program `rays`, runs the C examples and the program, and shows the marked cases;
 # `make install PREFIX=..` puts archive, header and a pkg-config file in place; `make test` is what .ci/run calls; `make bench` measures a
 # conversion and a score.
-.PHONY: all install test clean tools format verdict prove archive program example listing reference replay stack conformance messages valgrind outside marked bench
+.PHONY: all install test clean tools format verdict prove archive program example listing reference replay stack modes instructions conformance messages valgrind outside marked bench
 # One step after the other, in the order in which a target names them.
 .NOTPARALLEL:
 
@@ -24,8 +24,8 @@ all: tools prove example listing marked
 
 # `rt ci` starts from nothing, proves everything once and tries the must-fail edits; the steps behind it use what it proved. Its last line,
 # 'N passed, M failed', is printed last: where a step in between fails, it is not printed.
-test: TOOLS += cargo nm pkg-config size valgrind
-test: tools format marked verdict reference replay stack conformance example messages valgrind outside listing
+test: TOOLS += cargo nm objdump pkg-config size valgrind
+test: tools format marked verdict reference replay stack modes instructions conformance example messages valgrind outside listing
 	@tail -n 1 build/verdict.log
 
 tools:
@@ -134,6 +134,17 @@ stack: archive
 	@echo "The stack that a call uses (tests/stack.c):"
 	@$(CC) $(CFLAGS) -Iinclude tests/stack.c tests/calls.c tests/lent.c build/libwelchodrys.a -o build/stack
 	@build/stack
+	@echo
+
+modes: archive
+	@echo "The archive's answers under floating-point modes (tests/modes.c):"
+	@$(CC) $(CFLAGS) -Iinclude tests/modes.c tests/calls.c tests/lent.c build/libwelchodrys.a -lm -o build/modes
+	@build/modes
+	@echo
+
+instructions: archive
+	@echo "The archive's instructions (tests/instructions):"
+	@tests/instructions build/libwelchodrys.a
 	@echo
 
 # What the program conformance must print is in its crate, and `rt ci` holds the program to it; here the reference is held to it.

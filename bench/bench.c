@@ -1,8 +1,8 @@
 /*
- * Measures welchodrys_convert and welchodrys_score side by side with the same work in double precision: a table for each
- * (conversion_table.c, score_table.c), with a verdict below it.
+ * Measures welchodrys_convert and welchodrys_score side by side with the same work in double precision: two tables for the one and
+ * a table for the other (conversion_table.c, score_table.c), with a verdict below each.
  *
- * Ends with status 0 where both verdicts are "yes", with 1 where one is "no", and with 2, without the table in question, where a
+ * Ends with status 0 where all verdicts are "yes", with 1 where one is "no", and with 2, without the table in question, where a
  * call refuses or what is compared with it does other work.
  */
 #include "harness.h"
@@ -31,7 +31,7 @@ int main(void)
     printf("Face size %d, depth %d, %d samples; the shortest of %d interleaved runs.\n", SIZE, DEPTH, SAMPLES, RUNS);
     print_machine();
     printf("\n");
-    const int conversion_fast_enough = print_conversion_table();
+    const int conversion_fast_enough = print_conversion_tables();
     printf("\n");
     const int score_fast_enough = print_score_table();
     return conversion_fast_enough && score_fast_enough ? 0 : 1;

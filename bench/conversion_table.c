@@ -1,6 +1,6 @@
 /*
- * The table of conversions: welchodrys_convert, two conversions in double precision, whose samples are compared with the exact
- * ones, and a plain copy of a frame.
+ * The tables of conversions: welchodrys_convert, two conversions in double precision, whose samples are compared with the exact
+ * ones, and a plain copy of a frame. In the first table both ends have the same format, in the second they differ.
  *
  * "Straightforward" (straightforward.c) is what one writes first. It goes sample by sample, and finds for each, anew: its place on
  * a face, the ray there (in ACP with the square roots of equation 12), the ray times the matrix, the face that it meets, the
@@ -9,7 +9,7 @@
  * "Tuned by hand" (tuned.c) goes by the same formulas, made fast: the coordinates are in a table, each face has a base and steps
  * into the frame, samples are loaded as 16 bits, and there is no floor().
  *
- * The verdict is about the straightforward one alone: in each case welchodrys_convert is to be so many times as fast (`wanted`).
+ * The verdicts are about the straightforward one alone: in each case welchodrys_convert is to be so many times as fast (`wanted`).
  */
 #include "double_precision.h"
 #include "harness.h"
@@ -22,19 +22,26 @@
 #include <string.h>
 
 enum {
-    CASES = 4,
+    CASES = 8,
+    COLUMNS = 4, /* cases of a table */
     FEW_LEVELS = 3 /* no sample counts as far from another one that is so near */
 };
 
 static const int turn[4] = {29, 3, 7, -5};
 
-static const char *const names[CASES] = {"CMP nearest", "CMP cubic", "ACP nearest", "ACP cubic"};
-static const double wanted[CASES] = {4, 4, 3, 3.5};
+static const char *const names[CASES] = {
+    "CMP nearest", "CMP cubic", "ACP nearest", "ACP cubic", "CMP-ACP near.", "CMP-ACP cubic", "ACP-CMP near.", "ACP-CMP cubic",
+};
+static const double wanted[CASES] = {6, 6, 5.5, 5.5, 3, 3, 3, 3};
 static const struct conversion conversions[CASES] = {
-    {SIZE, DEPTH, WELCHODRYS_CMP, WELCHODRYS_NEAREST, usual_layout, turn},
-    {SIZE, DEPTH, WELCHODRYS_CMP, WELCHODRYS_CUBIC, usual_layout, turn},
-    {SIZE, DEPTH, WELCHODRYS_ACP, WELCHODRYS_NEAREST, usual_layout, turn},
-    {SIZE, DEPTH, WELCHODRYS_ACP, WELCHODRYS_CUBIC, usual_layout, turn},
+    {SIZE, DEPTH, WELCHODRYS_CMP, WELCHODRYS_CMP, WELCHODRYS_NEAREST, usual_layout, turn},
+    {SIZE, DEPTH, WELCHODRYS_CMP, WELCHODRYS_CMP, WELCHODRYS_CUBIC, usual_layout, turn},
+    {SIZE, DEPTH, WELCHODRYS_ACP, WELCHODRYS_ACP, WELCHODRYS_NEAREST, usual_layout, turn},
+    {SIZE, DEPTH, WELCHODRYS_ACP, WELCHODRYS_ACP, WELCHODRYS_CUBIC, usual_layout, turn},
+    {SIZE, DEPTH, WELCHODRYS_CMP, WELCHODRYS_ACP, WELCHODRYS_NEAREST, usual_layout, turn},
+    {SIZE, DEPTH, WELCHODRYS_CMP, WELCHODRYS_ACP, WELCHODRYS_CUBIC, usual_layout, turn},
+    {SIZE, DEPTH, WELCHODRYS_ACP, WELCHODRYS_CMP, WELCHODRYS_NEAREST, usual_layout, turn},
+    {SIZE, DEPTH, WELCHODRYS_ACP, WELCHODRYS_CMP, WELCHODRYS_CUBIC, usual_layout, turn},
 };
 
 struct frames {
@@ -54,8 +61,9 @@ struct times {
 
 static void convert_exactly(const struct conversion *c, const uint16_t *source, uint16_t *target)
 {
-    const uint64_t size = (uint64_t)c->size, format = (uint64_t)c->format;
-    const uint64_t code = welchodrys_convert(size, size, (uint64_t)c->depth, format, format, (uint64_t)c->sampler,
+    const uint64_t size = (uint64_t)c->size;
+    const uint64_t code = welchodrys_convert(size, size, (uint64_t)c->depth,
+        (uint64_t)c->source_format, (uint64_t)c->target_format, (uint64_t)c->sampler,
         c->layout, WELCHODRYS_LAYOUT_BYTES, c->layout, WELCHODRYS_LAYOUT_BYTES, c->turn[0], c->turn[1], c->turn[2], c->turn[3],
         (const uint8_t *)source, WELCHODRYS_FRAME_BYTES(SIZE), (uint8_t *)target, WELCHODRYS_FRAME_BYTES(SIZE));
     if (code != WELCHODRYS_ACCEPTED) {
@@ -130,29 +138,45 @@ static struct times measure(struct frames *frames)
     return times;
 }
 
-static void print_table(const struct times *times, const struct difference differences[CASES])
+/* The table whose first case is this one. */
+static void print_table(const struct times *times, const struct difference differences[CASES], int first)
 {
-    printf("%-30s%14s%14s%14s%14s\n", "milliseconds a frame", names[0], names[1], names[2], names[3]);
-    print_row("welchodrys_convert", times->exact, CASES);
-    print_row("double, straightforward", times->straightforward, CASES);
-    print_row("double, tuned by hand", times->tuned, CASES);
-    print_ratios("straightforward / welchodrys", times->straightforward, times->exact, CASES);
-    print_ratios("tuned / welchodrys", times->tuned, times->exact, CASES);
-    printf("%-30s%14d%14d%14d%14d\n", "samples that differ",
-        differences[0].different, differences[1].different, differences[2].different, differences[3].different);
-    printf("%-30s%14.2f\n", "memcpy of a frame", times->copy);
+    const double *exact = times->exact + first, *straightforward = times->straightforward + first, *tuned = times->tuned + first;
+    printf("%-30s", "milliseconds a frame");
+    for (int i = 0; i < COLUMNS; i++)
+        printf("%14s", names[first + i]);
+    printf("\n");
+    print_row("welchodrys_convert", exact, COLUMNS);
+    print_row("double, straightforward", straightforward, COLUMNS);
+    print_row("double, tuned by hand", tuned, COLUMNS);
+    print_ratios("straightforward / welchodrys", straightforward, exact, COLUMNS);
+    print_ratios("tuned / welchodrys", tuned, exact, COLUMNS);
+    printf("%-30s", "samples that differ");
+    for (int i = 0; i < COLUMNS; i++)
+        printf("%14d", differences[first + i].different);
+    printf("\n%-30s%14.2f\n", "memcpy of a frame", times->copy);
 }
 
-/* Whether welchodrys_convert is as many times as fast as the straightforward conversion as is wanted, in each case. */
-static int fast_enough(const struct times *times)
+/* Whether welchodrys_convert is as many times as fast as the straightforward conversion as is wanted, in each case of a table. */
+static int fast_enough(const struct times *times, int first)
 {
-    for (int i = 0; i < CASES; i++)
+    for (int i = first; i < first + COLUMNS; i++)
         if (wanted[i] * times->exact[i] > times->straightforward[i])
             return 0;
     return 1;
 }
 
-int print_conversion_table(void)
+/* Prints a table with its verdict. */
+static int print_with_verdict(const struct times *times, const struct difference differences[CASES], int first)
+{
+    const int fast = fast_enough(times, first);
+    print_table(times, differences, first);
+    printf("at least %g, %g, %g and %g times as fast as straightforward double precision: %s\n",
+        wanted[first], wanted[first + 1], wanted[first + 2], wanted[first + 3], fast ? "yes" : "no");
+    return fast;
+}
+
+int print_conversion_tables(void)
 {
     static struct frames frames;
     struct difference differences[CASES];
@@ -162,8 +186,8 @@ int print_conversion_table(void)
 
     const struct times times = measure(&frames);
     printf("A conversion through the turn (%d, %d, %d, %d), usual layout:\n", turn[0], turn[1], turn[2], turn[3]);
-    print_table(&times, differences);
-    printf("at least %g, %g, %g and %g times as fast as straightforward double precision: %s\n",
-        wanted[0], wanted[1], wanted[2], wanted[3], fast_enough(&times) ? "yes" : "no");
-    return fast_enough(&times);
+    const int alike_fast = print_with_verdict(&times, differences, 0);
+    printf("\nThe same, from CMP to ACP and from ACP to CMP:\n");
+    const int mixed_fast = print_with_verdict(&times, differences, COLUMNS);
+    return alike_fast && mixed_fast;
 }

@@ -4,11 +4,11 @@
 
 #include <stdint.h>
 
-/* Source and target share size, depth, format and layout. The codes and the 12 bytes of a layout are those of welchodrys.h. */
+/* Source and target share size, depth and layout. The codes and the 12 bytes of a layout are those of welchodrys.h. */
 struct conversion {
     int size;
     int depth;
-    int format;
+    int source_format, target_format;
     int sampler;
     const uint8_t *layout;
     const int *turn;

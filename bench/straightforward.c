@@ -22,19 +22,19 @@ struct setting {
     double matrix[3][3];
 };
 
-/* Where the middle of a column or row lies on a face, from -1 to 1; in ACP by equation 12. */
+/* Where the middle of a column or row lies on a target face, from -1 to 1; in ACP by equation 12. */
 static double coordinate(const struct conversion *conversion, int number)
 {
     const double plain = (2 * number + 1) / (double)conversion->size - 1;
-    if (conversion->format == WELCHODRYS_CMP)
+    if (conversion->target_format == WELCHODRYS_CMP)
         return plain;
     return copysign((0.34 - sqrt(0.34 * 0.34 - 0.09 * fabs(plain))) / 0.18, plain);
 }
 
-/* From -1 to 1 across a face to samples, rounded to 64ths; in ACP by equation 14. */
+/* From -1 to 1 across a source face to samples, rounded to 64ths; in ACP by equation 14. */
 static double position_on_face(const struct conversion *conversion, double u)
 {
-    const double g = conversion->format == WELCHODRYS_CMP ? u : u * (1.36 - 0.36 * fabs(u));
+    const double g = conversion->source_format == WELCHODRYS_CMP ? u : u * (1.36 - 0.36 * fabs(u));
     const double position = conversion->size * (g + 1) / 2 - 0.5;
     return floor(position * 64 + 0.5) / 64;
 }

@@ -28,7 +28,7 @@ struct setting {
     struct steps steps[6];
 };
 
-/* Where the middle of each column or row lies on a face, from -1 to 1; in ACP by equation 12. */
+/* Where the middle of each column or row lies on a target face, from -1 to 1; in ACP by equation 12. */
 static void set_coordinates(int format, int size, double coordinates[LARGEST_FACE_SIZE])
 {
     for (int i = 0; i < size; i++) {
@@ -38,10 +38,13 @@ static void set_coordinates(int format, int size, double coordinates[LARGEST_FAC
     }
 }
 
-/* From -1 to 1 across a face to 64ths of a sample, in ACP by equation 14. What is cast is not negative, so it is rounded down. */
+/*
+ * From -1 to 1 across a source face to 64ths of a sample, in ACP by equation 14. What is cast is not negative, so it is rounded
+ * down.
+ */
 static int position64(const struct conversion *conversion, double u)
 {
-    const double g = conversion->format == WELCHODRYS_CMP ? u : u * (1.36 - 0.36 * fabs(u));
+    const double g = conversion->source_format == WELCHODRYS_CMP ? u : u * (1.36 - 0.36 * fabs(u));
     return (int)(32 * conversion->size * (g + 1) + 0.5) - 32;
 }
 
@@ -130,7 +133,7 @@ void convert_tuned(const struct conversion *conversion, const uint8_t *source, u
 {
     struct setting setting = {.conversion = conversion, .source = (const uint16_t *)source, .target = (uint16_t *)target};
     set_matrix(conversion->turn, setting.matrix);
-    set_coordinates(conversion->format, conversion->size, setting.coordinates);
+    set_coordinates(conversion->target_format, conversion->size, setting.coordinates);
     set_steps(conversion->size, conversion->layout, setting.steps);
     for (int slot = 0; slot < 6; slot++)
         fill_slot(&setting, slot);

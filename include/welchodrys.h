@@ -9,10 +9,12 @@
  * complement, little-endian, number k at bytes 8k to 8k + 7. A number that does not fit whole is not written, and every other
  * byte stays. No length of an answer buffer is a refusal.
  *
- * What the caller owes. No buffer that a call writes overlaps another one lent to it. A pointer points at as many bytes as its
- * length says; it may be NULL where the length is 0. The floating-point environment is the default one: doubles are rounded to
- * nearest, and no exception traps. A call without this is outside every promise. Buffers that a call only reads may overlap or be
- * the same.
+ * What the caller owes. No buffer that a call writes overlaps another one lent to it. A pointer points at as many bytes
+ * as its length says; it may be NULL where the length is 0. A call without this is outside every promise. Buffers that
+ * a call only reads may overlap or be the same.
+ *
+ * Floating point. Integers alone decide every byte: the processor's floating-point mode does not matter, and no call
+ * changes it.
  *
  * Threads. Calls keep nothing and share nothing, so threads may call at the same time, each with buffers of its own.
  */

@@ -10,4 +10,4 @@ pub mod Sums
 pub mod Bits
 pub mod Tables
 pub mod Divisors
-pub mod Doubles
+pub mod Narrow

@@ -2,7 +2,7 @@
 use mathlib.Core.Path.{_≡_, refl, sym, _∙_, ap, ap₂, subst}
 use mathlib.Core.Bool.{Bool, true, false, _&&_, not, true≢false}
 use mathlib.Core.Logic.{_⊎_, inl, inr, ⊎-elim}
-use Prim.Native.Nat.{ℕ, zero, suc, _+_, _≤_, _<_}
+use Prim.Native.Nat.{ℕ, zero, suc, _+_, _-_, _≤_, _<_}
 use native.Mathlib.Decide.{ℕ-discrete, decLt}
 use native.Mathlib.Nat.{eq-or-lt-of-le}
 use native.Mathlib.Numerals.{add-one}
@@ -127,6 +127,14 @@ unfolding allBelow
 all-of test zero h = tt
 all-of test (suc n) h = and-both (allBelow test n) (test n) (all-of test n (λ i l. h i (omega arith))) (h n (omega arith))
 
+-- the first n numbers pass, and the m behind them
+pub all-parts : (test : ℕ → Bool) (n m : ℕ) → T (allBelow test n) → T (allBelow (λ i. test (n + i)) m) → T (allBelow test (n + m))
+all-parts test n m first rest = all-of test (n + m) (λ i l. go i l (decLt i n))
+  where
+    go : (i : ℕ) → i < n + m → Dec (i < n) → T (test i)
+    go i l (yes h) = all-at test n first i h
+    go i l (no h) = subst (λ k. T (test k)) (omega arith) (all-at (λ j. test (n + j)) m rest (i - n) (omega arith))
+
 -- where not all pass, the lowest that does not pass is below the bound
 pub not-all : (test : ℕ → Bool) (n : ℕ) → (T (allBelow test n) → ⊥) → Lowest (λ i. not (test i)) n (lowest (λ i. not (test i)) n)
 not-all test n f = lowest-below (λ i. not (test i)) n (decide (decLt r n))
@@ -190,6 +198,13 @@ asked-next {test} {b} {n} {i} a h e = record { bounded = omega arith; each = λ 
     go j l (yes d) = ap test d ∙ e
     go j l (no d) = a .each j (omega arith)
 
+-- to numbers that all pass, the opposite test says no
+pub asked-all : (test : ℕ → Bool) (n i : ℕ) → i ≤ n → T (allBelow test i) → Asked (λ j. not (test j)) false n i
+asked-all test n i h t = record { bounded = h; each = no }
+  where
+    no : (j : ℕ) → j < i → not (test j) ≡ false
+    no j l = same-test (not (test j)) false (λ s. T-not (test j) s (all-at test i t j l)) (λ s. absurd s)
+
 -- the first that passes is the lowest
 pub lowest-here : {test : ℕ → Bool} {n i : ℕ} → Asked test false n i → i < n → test i ≡ true → lowest test n ≡ i
 lowest-here {test} {n} {i} a h e = go (lowest-is test n i h (passes e))
@@ -228,11 +243,8 @@ first-decides f g n h = go (allBelow f n) refl
     go : (b : Bool) → allBelow f n ≡ b → SameFirst f g n
     go true e = record { all-same = all-cong f g n same; lowest-same = lowest-cong (λ i. not (f i)) (λ i. not (g i)) n (λ i l. ap not (same i l)) }
       where
-        pass : (i : ℕ) → i < n → not (f i) ≡ false
-        pass i l = same-test (not (f i)) false (λ t. T-not (f i) t (all-at f n (passes e) i l)) (λ t. absurd t)
-
         same : (i : ℕ) → i < n → f i ≡ g i
-        same i l = h i (omega (arith, lowest-none {test = λ i. not (f i)} {n = n} {i = n} (record { bounded = omega arith; each = pass }) (omega arith)))
+        same i l = h i (omega (arith, lowest-none (asked-all f n n (omega arith) (passes e)) (omega arith)))
     go false e = record { all-same = e ∙ sym (all-fails g n r (w .below) no); lowest-same = sym (lowest-here before (w .below) (ap not no)) }
       where
         w : Lowest (λ i. not (f i)) n r

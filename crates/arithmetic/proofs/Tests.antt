@@ -32,6 +32,13 @@ pub and-right : (a b : Bool) → T (a && b) → T b
 and-right true b t = t
 and-right false b t = absurd t
 
+pub both-true : {a b : Bool} → (a && b) ≡ true → (a ≡ true) × (b ≡ true)
+both-true {a} {b} e = go a b e
+  where
+    go : (a b : Bool) → (a && b) ≡ true → (a ≡ true) × (b ≡ true)
+    go true b e = (refl, e)
+    go false b e = absurd (passes e)
+
 pub and-both : (a b : Bool) → T a → T b → T (a && b)
 and-both true b s t = t
 and-both false b s t = absurd s

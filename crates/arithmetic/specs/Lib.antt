@@ -1,4 +1,3 @@
 pub mod Integers
 pub mod Searches
 pub mod Sums
-pub mod Doubles

@@ -35,7 +35,7 @@ module _ (s : ConvertSettings) (m : ℕ) (source : List ℕ) (passed : ConvertPa
   target-ready coordinates e = record {
     size-least = size-range (s .targetSize) (passed .target-size) .at-least;
     size-most = size-range (s .targetSize) (passed .target-size) .at-most;
-    coordinate = e;
+    spaced = record { coordinate = e };
     layout-ok = passed .target-layout;
     rotation-in-range = passed .rotation-in-range;
     rotation-nonzero = passed .rotation-nonzero;

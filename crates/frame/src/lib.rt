@@ -5,10 +5,11 @@ ghost use Prim.Native.Nat.{_+_, _*_, _^_, _≤_, _<_};
 ghost use lib.Dec.{T};
 ghost use lib.Seq.{sets};
 ghost use lib.ListN.{length};
+ghost use Rattle.arithmetic.specs.Searches.{allBelow};
 ghost use Rattle.cubemap.specs.Interface.{littleEndian};
 ghost use Rattle.cubemap.specs.Frames.{samplesIn, bytesIn, sampleAt, layoutBytes, faceIn, quarterTurnsIn, slotOf};
 ghost use Rattle.cubemap.proofs.Layouts.{slotsWith, facesOnce, turnsFew};
-ghost use Rattle.cubemap.specs.Checks.{sizeOK, depthOK, codeOK, layoutOK, lengthOK, samplesOK, lowestBeyond};
+ghost use Rattle.cubemap.specs.Checks.{sizeOK, depthOK, codeOK, layoutOK, lengthOK, sampleOK, samplesOK, lowestBeyond};
 use cubemap::Layout;
 use cubemap::Shape;
 
@@ -88,30 +89,56 @@ pub fn sample_bound(depth: u64) -> u64
     1 << depth
 }
 
-// Questions 10 and 11: is every sample within the depth? The bits that any sample has, taken together, are below 2^D exactly where each sample is.
+// Is each of `count` samples from `from` on within the depth? The bits that any of them has, taken together, are below 2^D exactly where each one is.
 // They are kept as the 16 that a sample has: in wider numbers each sample would be widened first, which takes four times as long.
-pub fn samples_ok(shape: Shape, bytes: &[u8]) -> bool
-    requires { ⌜ (shape .size ≤ 512) × T (depthOK (shape .depth)) × (length (now bytes) ≡ bytesIn shape) ⌝ }
-    ensures { λ r. ⌜ r ≡ samplesOK shape (now (bytes .entry)) ⌝ }
+fn part_ok(shape: Shape, bytes: &[u8], from: u64, count: u64) -> bool
+    requires { ⌜ T (depthOK (shape .depth)) × (2 * (from + count) ≤ length (now bytes)) ⌝ }
+    ensures { λ r. ⌜ r ≡ allBelow (λ i. sampleOK shape (now (bytes .entry)) (from + i)) count ⌝ }
 {
-    let count = samples_in(shape);
     let mut bits: u16 = 0;
     let mut i: u64 = 0;
     while i < count {
-        bits = bits | sample(bytes, i as usize) as u16;
+        bits = bits | sample(bytes, (from + i) as usize) as u16;
         i += 1;
     }
     (bits as u64) < sample_bound(shape.depth)
 }
 
-// The lowest index with a sample beyond the depth; the number of samples where there is none.
+// Questions 10 and 11: is every sample within the depth?
+pub fn samples_ok(shape: Shape, bytes: &[u8]) -> bool
+    requires { ⌜ (shape .size ≤ 512) × T (depthOK (shape .depth)) × (length (now bytes) ≡ bytesIn shape) ⌝ }
+    ensures { λ r. ⌜ r ≡ samplesOK shape (now (bytes .entry)) ⌝ }
+{
+    part_ok(shape, bytes, 0, samples_in(shape))
+}
+
+// The samples of a block. A block that is within the depth is passed over as a whole.
+const BLOCK: u64 = 1024;
+
+// Where a search begins: the samples before it are within the depth, and the block that begins there is not, or is no whole one.
+fn blocks_ok(shape: Shape, bytes: &[u8]) -> u64
+    requires { ⌜ (shape .size ≤ 512) × T (depthOK (shape .depth)) × (length (now bytes) ≡ bytesIn shape) ⌝ }
+    ensures { λ r. ⌜ T (allBelow (sampleOK shape (now (bytes .entry))) r) × (r ≤ samplesIn shape) ⌝ }
+{
+    let count = samples_in(shape);
+    let mut start: u64 = 0;
+    while start + BLOCK <= count {
+        if !part_ok(shape, bytes, start, BLOCK) {
+            return start;
+        }
+        start += BLOCK;
+    }
+    start
+}
+
+// The lowest index with a sample beyond the depth; the number of samples where there is none. One block at most is searched sample by sample.
 pub fn lowest_beyond(shape: Shape, bytes: &[u8]) -> u64
     requires { ⌜ (shape .size ≤ 512) × T (depthOK (shape .depth)) × (length (now bytes) ≡ bytesIn shape) ⌝ }
     ensures { λ r. ⌜ (r ≡ lowestBeyond shape (now (bytes .entry))) × (r ≤ 1572864) ⌝ }
 {
     let count = samples_in(shape);
     let bound = sample_bound(shape.depth);
-    let mut index: u64 = 0;
+    let mut index = blocks_ok(shape, bytes);
     while index < count {
         if bound <= sample(bytes, index as usize) {
             return index;

@@ -1,4 +1,1 @@
-pub mod Nearly
 pub mod Filling
-pub mod Doubles
-pub mod Stretches

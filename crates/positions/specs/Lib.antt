@@ -1,4 +1,2 @@
-pub mod Near
 pub mod Ratios
 pub mod Lines
-pub mod Doubles

@@ -65,7 +65,7 @@ module _ (c : Conversion) (table : List ℤ) (L : List ℕ) (ready : TargetReady
 
   -- a coordinate is at most N
   pub coordinate-small : (m : ℕ) → m < A → natAbs (getD table m (pos 0)) ≤ N
-  coordinate-small m p = subst (λ z. natAbs z ≤ N) (sym (ready .coordinate m p))
+  coordinate-small m p = subst (λ z. natAbs z ≤ N) (sym (ready .spaced .coordinate m p))
       (le-trans (le-of-lt (coordinates (c .target .format) A .inside m p))
       (scale-bounded (c .target .format) A (ready .size-most)))
 
@@ -87,7 +87,7 @@ module _ (c : Conversion) (table : List ℤ) (L : List ℕ) (ready : TargetReady
         ap (rotated (c .rotation))
         (ap (rayOf (c .target .format) A) (sym place-is)
         ∙ slot-ray (c .target .format) A face j row p row-below turns turns-below
-        ∙ ap₂ (slotRay face turns (pos (scale (c .target .format) A))) (sym (ready .coordinate j p)) (sym (ready .coordinate row row-below))
+        ∙ ap₂ (slotRay face turns (pos (scale (c .target .format) A))) (sym (ready .spaced .coordinate j p)) (sym (ready .spaced .coordinate row row-below))
         ∙ slot-step face turns (pos (scale (c .target .format) A)) (getD table j (pos 0)) (getD table row (pos 0)))
         ∙ rotated-along (c .rotation) _ _ (getD table j (pos 0))
 
@@ -105,7 +105,7 @@ module _ (c : Conversion) (table : List ℤ) (L : List ℕ) (ready : TargetReady
     step-ok = rotated-ray (c .rotation) _ (ready .rotation-in-range) (ready .rotation-nonzero)
         (slot-place-ray face turns (pos 0) (pos 1) (pos 0) (omega arith) (omega arith) (omega arith) (omega arith)) .in-range;
     small = coordinate-small;
-    rising = λ m n l p. subst₂ _≤ℤ_ (sym (ready .coordinate m (omega arith))) (sym (ready .coordinate n p))
+    rising = λ m n l p. subst₂ _≤ℤ_ (sym (ready .spaced .coordinate m (omega arith))) (sym (ready .spaced .coordinate n p))
         (coordinates (c .target .format) A .rises m n l);
     leads = ray-leads;
   }

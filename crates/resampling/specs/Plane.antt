@@ -4,7 +4,7 @@ use mathlib.Core.List.{List}
 use Prim.Native.Nat.{ℕ, zero, suc, _≤_, _<_}
 use lib.Dec.{T}
 use lib.IntN.{ℤ, pos, negℤ, natAbs}
-use lib.ListN.{getD}
+use lib.ListN.{length, getD}
 use lib.Signed.{_≤ℤ_}
 use Rattle.cubemap.specs.declared.Ray.{Ray}
 use Rattle.cubemap.specs.declared.Rotation.{Rotation}
@@ -29,14 +29,27 @@ pub record SourceReady (c : Conversion) (plane : List ℕ) (steps weights : List
   pub weighted : IsWeights weights
   pub depth-ok : T (depthOK (c .depth))
 
+-- the coordinates of the target's columns
+pub record Spaced (b : Cube) (coordinates : List ℤ) : Type 0 where
+  pub coordinate : (m : ℕ) → m < b .size → getD coordinates m (pos 0) ≡ faceCoordinate (b .format) (b .size) m
+
 -- the target's coordinates and layout, and the rotation
 pub record TargetReady (c : Conversion) (coordinates : List ℤ) (L : List ℕ) : Type 0 where
   pub size-least : 1 ≤ c .target .size
   pub size-most : c .target .size ≤ 512
-  pub coordinate : (m : ℕ) → m < c .target .size → getD coordinates m (pos 0) ≡ faceCoordinate (c .target .format) (c .target .size) m
+  pub spaced : Spaced (c .target) coordinates
   pub layout-ok : T (layoutOK L)
   pub rotation-in-range : T (rotationInRange (c .rotation))
   pub rotation-nonzero : T (rotationNonzero (c .rotation))
+
+-- the tables of a stretch have 512 entries each
+pub record Scratch (guesses distances reciprocals sums columns rows : List ℕ) : Type 0 where
+  pub guesses-whole : length guesses ≡ 512
+  pub distances-whole : length distances ≡ 512
+  pub reciprocals-whole : length reciprocals ≡ 512
+  pub sums-whole : length sums ≡ 512
+  pub columns-whole : length columns ≡ 512
+  pub rows-whole : length rows ≡ 512
 
 -- the rays of a run: the columns' coordinates, which rise, times a step from a start
 pub record Runs (A : ℕ) (coordinates : List ℤ) (start step : Ray) : Type 0 where

@@ -3,6 +3,7 @@
 // whose rays meet one face of the source: first their positions are found, then their samples.
 ghost use mathlib.Core.Path.{_≡_};
 ghost use Prim.Native.Nat.{_+_, _*_, _-_, _≤_, _<_};
+ghost use mathlib.Core.Bool.{true};
 ghost use lib.Dec.{T};
 ghost use lib.IntN.{pos, natAbs};
 ghost use lib.ListN.{length, getD};
@@ -12,7 +13,7 @@ ghost use Rattle.cubemap.specs.Checks.{rotationInRange, rayInRange};
 ghost use Rattle.cubemap.proofs.Rotations.{along};
 ghost use Rattle.cubemap.proofs.RotatedRays.{RotatedRay};
 ghost use Rattle.frame.specs.Placing.{placed};
-ghost use Rattle.resampling.specs.Plane.{slotRay, runStart, runStep, SourceReady, TargetReady, Runs, OneFace, valueOn, valueAtIndex};
+ghost use Rattle.resampling.specs.Plane.{slotRay, runStart, runStep, SourceReady, Spaced, TargetReady, Scratch, Runs, OneFace, valueOn, valueAtIndex};
 use cubemap::Format;
 use cubemap::Layout;
 use cubemap::Ray;
@@ -119,6 +120,16 @@ fn stretch_end(
 
 // ---- samples
 
+// Are the columns of a target in this format evenly spaced? Those of adjusted faces are not.
+fn evenly(format: Format) -> bool
+    ensures { λ r. ⌜ (r ≡ true → format ≡ Format.Cmp) ⌝ }
+{
+    match format {
+        Format::Cmp => true,
+        Format::Acp => false,
+    }
+}
+
 // The samples along a stretch of a run: first where its rays meet the face, all of them, then the sampler's values there. `at` is the index where
 // the run begins.
 fn convert_stretch(
@@ -133,25 +144,34 @@ fn convert_stretch(
     from: u64,
     to: u64,
     at: u64,
-    columns: &mut [i64; 512],
-    rows: &mut [i64; 512],
+    guesses: &mut [u64; 512],
+    distances: &mut [u32; 512],
+    reciprocals: &mut [u32; 512],
+    sums: &mut [u32; 512],
+    columns: &mut [u32; 512],
+    rows: &mut [u32; 512],
     target: &mut [u8],
 )
     requires { ⌜ SourceReady c (now source) (now «source_steps») (now weights) × Runs (c .target .size) (now coordinates) start «ray_step» ⌝ }
-    requires { ⌜ (c .target .size ≤ 512) × (face < 6) × (from ≤ to) × (to ≤ c .target .size) × OneFace (now coordinates) start «ray_step» face from to ⌝ }
-    requires { ⌜ (at ≤ 1572864) × (2 * (at + c .target .size) ≤ length (now target)) × (length (now columns) ≡ 512) × (length (now rows) ≡ 512) ⌝ }
+    requires { ⌜ (c .target .size ≤ 512) × (face < 6) × (from < to) × (to ≤ c .target .size) × OneFace (now coordinates) start «ray_step» face from to ⌝ }
+    requires { ⌜ (at ≤ 1572864) × (2 * (at + c .target .size) ≤ length (now target)) × Spaced (c .target) (now coordinates)
+        × Scratch (now guesses) (now distances) (now reciprocals) (now sums) (now columns) (now rows) ⌝ }
     ensures { λ _. ⌜ (now (target .exit) ≡ placed (now (target .entry)) (at + from)
         (λ j. valueOn c (now (source .entry)) (now («source_steps» .entry)) (along start (getD (now (coordinates .entry)) (from + j) (pos 0)) «ray_step»))
-        (to - from)) × (length (now (columns .exit)) ≡ 512) × (length (now (rows .exit)) ≡ 512) ⌝ }
+        (to - from)) × Scratch (now (guesses .exit)) (now (distances .exit)) (now (reciprocals .exit)) (now (sums .exit)) (now (columns .exit)) (now (rows .exit)) ⌝ }
 {
     let cube = c.source;
     let size = cube.size;
     let format = cube.format;
     let sampler = c.sampler;
+    let goal = c.target;
+    let goal_format = goal.format;
+    let spacing = evenly(goal_format);
     let first = geometry::table4(face, start);
     let more = geometry::table4(face, ray_step);
-    positions::positions_along(
+    stretches::positions_along(
         format,
+        spacing,
         size,
         Line {
             at: first.across,
@@ -168,6 +188,10 @@ fn convert_stretch(
         coordinates,
         from,
         to,
+        guesses,
+        distances,
+        reciprocals,
+        sums,
         columns,
         rows,
     );
@@ -184,6 +208,7 @@ fn convert_stretch(
         from,
         to,
         at,
+        sums,
         target,
     );
 }
@@ -198,16 +223,20 @@ fn convert_along(
     start: Ray,
     ray_step: Ray,
     at: u64,
-    columns: &mut [i64; 512],
-    rows: &mut [i64; 512],
+    guesses: &mut [u64; 512],
+    distances: &mut [u32; 512],
+    reciprocals: &mut [u32; 512],
+    sums: &mut [u32; 512],
+    columns: &mut [u32; 512],
+    rows: &mut [u32; 512],
     target: &mut [u8],
 )
     requires { ⌜ SourceReady c (now source) (now «source_steps») (now weights) × Runs (c .target .size) (now coordinates) start «ray_step» ⌝ }
     requires { ⌜ (c .target .size ≤ 512) × (at ≤ 1572864) × (2 * (at + c .target .size) ≤ length (now target)) ⌝ }
-    requires { ⌜ (length (now columns) ≡ 512) × (length (now rows) ≡ 512) ⌝ }
+    requires { ⌜ Spaced (c .target) (now coordinates) × Scratch (now guesses) (now distances) (now reciprocals) (now sums) (now columns) (now rows) ⌝ }
     ensures { λ _. ⌜ (now (target .exit) ≡ placed (now (target .entry)) at
         (λ j. valueOn c (now (source .entry)) (now («source_steps» .entry)) (along start (getD (now (coordinates .entry)) j (pos 0)) «ray_step»))
-        (c .target .size)) × (length (now (columns .exit)) ≡ 512) × (length (now (rows .exit)) ≡ 512) ⌝ }
+        (c .target .size)) × Scratch (now (guesses .exit)) (now (distances .exit)) (now (reciprocals .exit)) (now (sums .exit)) (now (columns .exit)) (now (rows .exit)) ⌝ }
 {
     let cube = c.target;
     let size = cube.size;
@@ -227,6 +256,10 @@ fn convert_along(
             from,
             to,
             at,
+            guesses,
+            distances,
+            reciprocals,
+            sums,
             columns,
             rows,
             target,
@@ -244,16 +277,20 @@ fn convert_run(
     coordinates: &[i64; 512],
     layout: Layout,
     run: u64,
-    columns: &mut [i64; 512],
-    rows: &mut [i64; 512],
+    guesses: &mut [u64; 512],
+    distances: &mut [u32; 512],
+    reciprocals: &mut [u32; 512],
+    sums: &mut [u32; 512],
+    columns: &mut [u32; 512],
+    rows: &mut [u32; 512],
     target: &mut [u8],
 )
     requires { ⌜ SourceReady c (now source) (now «source_steps») (now weights) × TargetReady c (now coordinates) (layoutBytes layout) ⌝ }
     requires { ⌜ (run < 6 * c .target .size) × (length (now target) ≡ 2 * planeSamples (c .target .size)) ⌝ }
-    requires { ⌜ (length (now columns) ≡ 512) × (length (now rows) ≡ 512) ⌝ }
+    requires { ⌜ Scratch (now guesses) (now distances) (now reciprocals) (now sums) (now columns) (now rows) ⌝ }
     ensures { λ _. ⌜ (now (target .exit) ≡ placed (now (target .entry)) (run * c .target .size)
         (λ j. valueAtIndex c (layoutBytes layout) (now (source .entry)) (now («source_steps» .entry)) (run * c .target .size + j)) (c .target .size))
-        × (length (now (columns .exit)) ≡ 512) × (length (now (rows .exit)) ≡ 512) ⌝ }
+        × Scratch (now (guesses .exit)) (now (distances .exit)) (now (reciprocals .exit)) (now (sums .exit)) (now (columns .exit)) (now (rows .exit)) ⌝ }
 {
     let cube = c.target;
     let size = cube.size;
@@ -273,6 +310,10 @@ fn convert_run(
         start,
         ray_step,
         run * size,
+        guesses,
+        distances,
+        reciprocals,
+        sums,
         columns,
         rows,
         target,
@@ -296,6 +337,10 @@ pub fn convert_plane(
 {
     let cube = c.target;
     let runs = 6 * cube.size;
+    let mut guesses = [0; 512];
+    let mut distances = [0; 512];
+    let mut reciprocals = [0; 512];
+    let mut sums = [0; 512];
     let mut columns = [0; 512];
     let mut rows = [0; 512];
     let mut run: u64 = 0;
@@ -308,6 +353,10 @@ pub fn convert_plane(
             coordinates,
             layout,
             run,
+            &mut guesses,
+            &mut distances,
+            &mut reciprocals,
+            &mut sums,
             &mut columns,
             &mut rows,
             target,

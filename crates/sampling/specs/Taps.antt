@@ -4,7 +4,7 @@ use mathlib.Core.Bool.{Bool, false}
 use mathlib.Core.List.{List}
 use Prim.Native.Nat.{ℕ, _+_, _*_, _≤_, _<_}
 use lib.Dec.{T, ltb}
-use lib.IntN.{ℤ, pos, negsuc, natAbs, _+ℤ_, _*ℤ_}
+use lib.IntN.{ℤ, pos, negsuc, natAbs, _+ℤ_, _-ℤ_, _*ℤ_}
 use lib.Signed.{nonNeg}
 use lib.ListN.{length, getD}
 use Rattle.arithmetic.specs.Integers.{natural}
@@ -12,9 +12,8 @@ use Rattle.cubemap.specs.declared.Place.{Place}
 use Rattle.cubemap.specs.declared.Sampler.{Sampler}
 use Rattle.cubemap.specs.RayToPlace.{located}
 use Rattle.cubemap.specs.Samplers.{nearestColumn, tapPlace, tapWeight, overTaps, sampleFrom}
-use Rattle.cubemap.proofs.Positions.{InRange}
 use Rattle.indices.specs.declared.FaceSteps.{FaceSteps}
-use Rattle.indices.specs.Steps.{sampleBySteps}
+use Rattle.indices.specs.Steps.{stepped, sampleBySteps}
 use Rattle.sampling.specs.declared.Weights.{Weights}
 
 -- a table of the tap weights, phases 0 to 63: "The 256 weights stand as a table .. each phase adding to 524,288"
@@ -63,6 +62,19 @@ abbrev pub inFace : ℕ → ℤ → Bool
 inFace A (pos m) = ltb (m + 3) A
 inFace A (negsuc m) = false
 
+-- ---- a position in a table
+
+-- the position T that a number of a table stands for: T is at least −32, so T + 32 is a natural number
+abbrev pub positionOf : ℕ → ℤ
+positionOf n = pos n -ℤ pos 32
+
+abbrev pub positionIn : List ℕ → ℕ → ℤ
+positionIn table j = positionOf (getD table j 0)
+
+-- the index of the sample at the nearest column and row of a face, by its steps
+abbrev pub nearestIndex : ℕ → FaceSteps → ℕ → ℕ → ℕ
+nearestIndex A s x y = natural (stepped s (nearestColumn A (positionOf x)) (nearestColumn A (positionOf y)))
+
 -- ---- the samplers' values at a column x and a row y, by the steps of the face
 
 abbrev pub nearestOn : List ℕ → FaceSteps → ℕ → ℤ → ℤ → ℕ
@@ -75,6 +87,15 @@ cubicOn plane s A D x y = sampleFrom Sampler.Cubic A D (onFace plane s) (located
 -- ---- a stretch of positions
 
 -- the positions from number `from` up to number `to`, in a table of columns and one of rows, are on a face of size A
-pub record OnFaces (A from to : ℕ) (columns rows : List ℤ) : Type 0 where
-  pub column-ok : (j : ℕ) → from ≤ j → j < to → InRange A (getD columns j (pos 0))
-  pub row-ok : (j : ℕ) → from ≤ j → j < to → InRange A (getD rows j (pos 0))
+pub record OnFaces (A from to : ℕ) (columns rows : List ℕ) : Type 0 where
+  pub column-ok : (j : ℕ) → from ≤ j → j < to → getD columns j 0 ≤ 64 * A
+  pub row-ok : (j : ℕ) → from ≤ j → j < to → getD rows j 0 ≤ 64 * A
+
+-- a table of the indices of the nearest samples there
+pub record NearestIndices (A : ℕ) (s : FaceSteps) (columns rows : List ℕ) (from to : ℕ) (indices : List ℕ) : Type 0 where
+  pub whole : length indices ≡ 512
+  pub index-is : (j : ℕ) → from ≤ j → j < to → getD indices j 0 ≡ nearestIndex A s (getD columns j 0) (getD rows j 0)
+
+-- a plane has samples at the indices in a table
+pub record InPlane (plane : List ℕ) (from to : ℕ) (indices : List ℕ) : Type 0 where
+  pub index-ok : (j : ℕ) → from ≤ j → j < to → 2 * getD indices j 0 + 1 < length plane

@@ -12,11 +12,10 @@ ghost use Rattle.cubemap.specs.Checks.{depthOK};
 ghost use Rattle.cubemap.specs.RayToPlace.{located};
 ghost use Rattle.cubemap.specs.Samplers.{nearestColumn, tapAt, tapPlace, cubicSum, sampleFrom};
 ghost use Rattle.cubemap.specs.Samplers as paper;
-ghost use Rattle.cubemap.proofs.Positions.{InRange};
 ghost use Rattle.frame.specs.Placing.{placed};
-ghost use Rattle.indices.specs.Steps.{SteppedFace, SteppedPlane, sampleBySteps, sampleBy};
+ghost use Rattle.indices.specs.Steps.{FaceLeads, SteppedFace, SteppedPlane, sampleBySteps, sampleBy};
 ghost use Rattle.sampling.specs.Taps.{IsWeights, weightsOf, Small, weighed, rowSum, gridSum, FourIn, tapped, onFace, inFace};
-ghost use Rattle.sampling.specs.Taps.{nearestOn, cubicOn, OnFaces};
+ghost use Rattle.sampling.specs.Taps.{positionOf, positionIn, nearestIndex, nearestOn, cubicOn, OnFaces, NearestIndices, InPlane};
 
 mod table;
 
@@ -25,23 +24,27 @@ use indices::FaceSteps;
 
 // ---- nearest
 
-// The column, or row, that is nearest to a position.
-fn nearest_column(size: u64, t: i64) -> u64
-    requires { ⌜ (1 ≤ size) × (size ≤ 512) × InRange size t ⌝ }
-    ensures { λ r. ⌜ r ≡ nearestColumn size t ⌝ }
+// The column, or row, that is nearest to a position of a face, of which the last column is given.
+fn nearest_column(last: u32, position: u32) -> u32
+    requires { ⌜ position ≤ 64 * (last + 1) ⌝ }
+    ensures { λ r. ⌜ (r ≡ nearestColumn (last + 1) (positionOf position)) × (r ≤ last) ⌝ }
 {
-    let column = (t + 32) as u64 / 64;
-    if column == size { size - 1 } else { column }
+    let column = position / 64;
+    if column < last { column } else { last }
 }
 
-// The sample at the nearest column and row of a face.
-fn nearest(plane: &[u8], size: u64, steps: FaceSteps, column: i64, row: i64) -> u64
-    requires { ⌜ SteppedFace size (now plane) steps × (1 ≤ size) × InRange size column × InRange size row ⌝ }
-    ensures { λ r. ⌜ (r ≡ nearestOn (now (plane .entry)) steps size column row) × (r < 65536) ⌝ }
+// The index of the sample at the nearest column and row of a face.
+fn nearest_index(size: u64, steps: FaceSteps, column: u32, row: u32) -> u32
+    requires { ⌜ FaceLeads size steps × (1 ≤ size) × (size ≤ 512) × (column ≤ 64 * size) × (row ≤ 64 * size) ⌝ }
+    ensures { λ r. ⌜ r ≡ nearestIndex size steps column row ⌝ }
 {
-    let m = nearest_column(size, column);
-    let n = nearest_column(size, row);
-    indices::sample_by_steps(plane, size, steps, m, n)
+    let last = (size - 1) as u32;
+    let base = steps.base as i32;
+    let across = steps.across as i32;
+    let down = steps.down as i32;
+    let m = nearest_column(last, column);
+    let n = nearest_column(last, row);
+    (base + m as i32 * across + n as i32 * down) as u32
 }
 
 // ---- the weights of taps
@@ -61,12 +64,11 @@ pub struct Weights {
     pub w3: i64,
 }
 
-// The phase of a position.
-fn phase_of(t: i64) -> u64
-    requires { ⌜ natAbs t ≤ 32768 ⌝ }
-    ensures { λ r. ⌜ (pos r ≡ paper.phase t) × (r < 64) ⌝ }
+// The phase of a position, from its number in a table: T + 32 and 32 more are T and 64.
+fn phase_of(n: u32) -> u64
+    ensures { λ r. ⌜ (pos r ≡ paper.phase (positionOf n)) × (r < 64) ⌝ }
 {
-    (t - 64 * (t >> 6)) as u64
+    (n as u64 + 32) % 64
 }
 
 // The weights at a phase.
@@ -88,11 +90,11 @@ fn weights_of(table: &[i64; 256], phase: u64) -> Weights
 }
 
 // The weights at a position.
-fn weights_at(table: &[i64; 256], t: i64) -> Weights
-    requires { ⌜ IsWeights (now table) × (natAbs t ≤ 32768) ⌝ }
-    ensures { λ r. ⌜ (r ≡ weightsOf (paper.phase t)) × Small r ⌝ }
+fn weights_at(table: &[i64; 256], n: u32) -> Weights
+    requires { ⌜ IsWeights (now table) ⌝ }
+    ensures { λ r. ⌜ (r ≡ weightsOf (paper.phase (positionOf n))) × Small r ⌝ }
 {
-    weights_of(table, phase_of(t))
+    weights_of(table, phase_of(n))
 }
 
 // Four numbers by their weights.
@@ -286,12 +288,12 @@ fn sum_by_places(
 
 // ---- cubic
 
-// The column, or row, of the first of four taps.
-fn first_tap(t: i64) -> i64
-    requires { ⌜ natAbs t ≤ 32768 ⌝ }
-    ensures { λ r. ⌜ (r ≡ tapAt t 0) × (natAbs r ≤ 65536) ⌝ }
+// The column, or row, of the first of four taps at a position, from its number in a table. The quotient is one more than the base.
+fn first_tap(n: u32) -> i64
+    requires { ⌜ n ≤ 32768 ⌝ }
+    ensures { λ r. ⌜ (r ≡ tapAt (positionOf n) 0) × (natAbs r ≤ 65536) ⌝ }
 {
-    (t >> 6) - 1
+    ((n as u64 + 32) / 64) as i64 - 2
 }
 
 // Are four columns, or rows, from this one on inside the face?
@@ -323,17 +325,17 @@ fn sum_from(
     }
 }
 
-// The sum over sixteen taps.
+// The sum over sixteen taps at such a position.
 fn cubic_sum(
     plane: &[u8],
     size: u64,
     steps: FaceSteps,
     weights: &[i64; 256],
-    column: i64,
-    row: i64,
+    column: u32,
+    row: u32,
 ) -> i64
-    requires { ⌜ SteppedFace size (now plane) steps × (1 ≤ size) × IsWeights (now weights) × InRange size column × InRange size row ⌝ }
-    ensures { λ r. ⌜ (r ≡ cubicSum size (onFace (now (plane .entry)) steps) (located 0 column row)) × (natAbs r ≤ 2 ^ 58) ⌝ }
+    requires { ⌜ SteppedFace size (now plane) steps × (1 ≤ size) × IsWeights (now weights) × (column ≤ 64 * size) × (row ≤ 64 * size) ⌝ }
+    ensures { λ r. ⌜ (r ≡ cubicSum size (onFace (now (plane .entry)) steps) (located 0 (positionOf column) (positionOf row))) × (natAbs r ≤ 2 ^ 58) ⌝ }
 {
     let u = weights_at(weights, column);
     let w = weights_at(weights, row);
@@ -348,19 +350,19 @@ fn rounded(sum: i64) -> i64
     (sum + 137438953472) >> 38
 }
 
-// The cubic value at a position of a face.
+// The cubic value at a position of a face, from its numbers in the tables.
 fn cubic(
     plane: &[u8],
     size: u64,
     steps: FaceSteps,
     weights: &[i64; 256],
     depth: u64,
-    column: i64,
-    row: i64,
+    column: u32,
+    row: u32,
 ) -> u64
-    requires { ⌜ SteppedFace size (now plane) steps × (1 ≤ size) × IsWeights (now weights) × InRange size column × InRange size row ⌝ }
+    requires { ⌜ SteppedFace size (now plane) steps × (1 ≤ size) × IsWeights (now weights) × (column ≤ 64 * size) × (row ≤ 64 * size) ⌝ }
     requires { ⌜ T (depthOK depth) ⌝ }
-    ensures { λ r. ⌜ (r ≡ cubicOn (now (plane .entry)) steps size depth column row) × (r < 65536) ⌝ }
+    ensures { λ r. ⌜ (r ≡ cubicOn (now (plane .entry)) steps size depth (positionOf column) (positionOf row)) × (r < 65536) ⌝ }
 {
     let sum = cubic_sum(plane, size, steps, weights, column, row);
     let value = rounded(sum);
@@ -382,33 +384,65 @@ pub fn sampler_of(code: u64) -> Sampler
 
 // ---- along a stretch of positions
 
-// Stores the nearest samples at the positions from number `from` up to number `to`, each at index `at` plus its number.
-fn nearest_along(
-    plane: &[u8],
+// Stores the indices of the nearest samples at the positions from number `from` up to number `to`, by their numbers.
+fn nearest_indices(
     size: u64,
     steps: FaceSteps,
-    columns: &[i64; 512],
-    rows: &[i64; 512],
+    columns: &[u32; 512],
+    rows: &[u32; 512],
     from: u64,
     to: u64,
-    at: u64,
-    target: &mut [u8],
+    indices: &mut [u32; 512],
 )
-    requires { ⌜ SteppedFace size (now plane) steps × (1 ≤ size) × OnFaces size from to (now columns) (now rows) ⌝ }
+    requires { ⌜ FaceLeads size steps × (1 ≤ size) × (size ≤ 512) × OnFaces size from to (now columns) (now rows) ⌝ }
+    requires { ⌜ (from ≤ to) × (to ≤ 512) × (length (now indices) ≡ 512) ⌝ }
+    ensures { λ _. ⌜ NearestIndices size steps (now (columns .entry)) (now (rows .entry)) from to (now (indices .exit)) ⌝ }
+{
+    let mut j = from;
+    while j < to {
+        indices[j as usize] = nearest_index(size, steps, columns[j as usize], rows[j as usize]);
+        j += 1;
+    }
+}
+
+// Stores the samples at the indices from number `from` up to number `to`, each at index `at` plus its number.
+fn samples_along(plane: &[u8], indices: &[u32; 512], from: u64, to: u64, at: u64, target: &mut [u8])
+    requires { ⌜ InPlane (now plane) from to (now indices) ⌝ }
     requires { ⌜ (from ≤ to) × (to ≤ 512) × (at ≤ 1572864) × (2 * (at + to) ≤ length (now target)) ⌝ }
     ensures { λ _. ⌜ now (target .exit) ≡ placed (now (target .entry)) (at + from)
-        (λ j. nearestOn (now (plane .entry)) steps size (getD (now (columns .entry)) (from + j) (pos 0)) (getD (now (rows .entry)) (from + j) (pos 0)))
-        (to - from) ⌝ }
+        (λ j. sampleAt (now (plane .entry)) (getD (now (indices .entry)) (from + j) 0)) (to - from) ⌝ }
 {
     let start = at + from;
     let count = to - from;
     let mut n: u64 = 0;
     while n < count {
-        let j = (from + n) as usize;
-        let sample = nearest(plane, size, steps, columns[j], rows[j]);
+        let sample = frame::sample(plane, indices[(from + n) as usize] as usize);
         frame::put_sample(target, (start + n) as usize, sample);
         n += 1;
     }
+}
+
+// Stores the nearest samples at the positions from number `from` up to number `to`, each at index `at` plus its number.
+fn nearest_along(
+    plane: &[u8],
+    size: u64,
+    steps: FaceSteps,
+    columns: &[u32; 512],
+    rows: &[u32; 512],
+    from: u64,
+    to: u64,
+    at: u64,
+    indices: &mut [u32; 512],
+    target: &mut [u8],
+)
+    requires { ⌜ SteppedFace size (now plane) steps × (1 ≤ size) × OnFaces size from to (now columns) (now rows) ⌝ }
+    requires { ⌜ (from ≤ to) × (to ≤ 512) × (at ≤ 1572864) × (2 * (at + to) ≤ length (now target)) × (length (now indices) ≡ 512) ⌝ }
+    ensures { λ _. ⌜ (now (target .exit) ≡ placed (now (target .entry)) (at + from)
+        (λ j. nearestOn (now (plane .entry)) steps size (positionIn (now (columns .entry)) (from + j)) (positionIn (now (rows .entry)) (from + j)))
+        (to - from)) × (length (now (indices .exit)) ≡ 512) ⌝ }
+{
+    nearest_indices(size, steps, columns, rows, from, to, indices);
+    samples_along(plane, indices, from, to, at, target);
 }
 
 // The same with the cubic values.
@@ -418,8 +452,8 @@ fn cubic_along(
     steps: FaceSteps,
     weights: &[i64; 256],
     depth: u64,
-    columns: &[i64; 512],
-    rows: &[i64; 512],
+    columns: &[u32; 512],
+    rows: &[u32; 512],
     from: u64,
     to: u64,
     at: u64,
@@ -429,7 +463,7 @@ fn cubic_along(
     requires { ⌜ IsWeights (now weights) × T (depthOK depth) ⌝ }
     requires { ⌜ (from ≤ to) × (to ≤ 512) × (at ≤ 1572864) × (2 * (at + to) ≤ length (now target)) ⌝ }
     ensures { λ _. ⌜ now (target .exit) ≡ placed (now (target .entry)) (at + from)
-        (λ j. cubicOn (now (plane .entry)) steps size depth (getD (now (columns .entry)) (from + j) (pos 0)) (getD (now (rows .entry)) (from + j) (pos 0)))
+        (λ j. cubicOn (now (plane .entry)) steps size depth (positionIn (now (columns .entry)) (from + j)) (positionIn (now (rows .entry)) (from + j)))
         (to - from) ⌝ }
 {
     let start = at + from;
@@ -452,23 +486,35 @@ pub fn sample_along(
     weights: &[i64; 256],
     depth: u64,
     face: u64,
-    columns: &[i64; 512],
-    rows: &[i64; 512],
+    columns: &[u32; 512],
+    rows: &[u32; 512],
     from: u64,
     to: u64,
     at: u64,
+    indices: &mut [u32; 512],
     target: &mut [u8],
 )
     requires { ⌜ SteppedPlane size (now plane) (now steps) × IsWeights (now weights) × T (depthOK depth) × (face < 6) ⌝ }
     requires { ⌜ OnFaces size from to (now columns) (now rows) ⌝ }
-    requires { ⌜ (from ≤ to) × (to ≤ 512) × (at ≤ 1572864) × (2 * (at + to) ≤ length (now target)) ⌝ }
-    ensures { λ _. ⌜ now (target .exit) ≡ placed (now (target .entry)) (at + from)
+    requires { ⌜ (from ≤ to) × (to ≤ 512) × (at ≤ 1572864) × (2 * (at + to) ≤ length (now target)) × (length (now indices) ≡ 512) ⌝ }
+    ensures { λ _. ⌜ (now (target .exit) ≡ placed (now (target .entry)) (at + from)
         (λ j. sampleFrom sampler size depth (sampleBy (now (plane .entry)) (now (steps .entry)))
-        (located face (getD (now (columns .entry)) (from + j) (pos 0)) (getD (now (rows .entry)) (from + j) (pos 0)))) (to - from) ⌝ }
+        (located face (positionIn (now (columns .entry)) (from + j)) (positionIn (now (rows .entry)) (from + j)))) (to - from)) × (length (now (indices .exit)) ≡ 512) ⌝ }
 {
     let on = indices::steps_at(steps, face);
     match sampler {
-        Sampler::Nearest => nearest_along(plane, size, on, columns, rows, from, to, at, target),
+        Sampler::Nearest => nearest_along(
+            plane,
+            size,
+            on,
+            columns,
+            rows,
+            from,
+            to,
+            at,
+            indices,
+            target,
+        ),
         Sampler::Cubic => cubic_along(
             plane,
             size,

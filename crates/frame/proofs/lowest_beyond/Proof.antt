@@ -1,5 +1,5 @@
 -- `lowest_beyond` meets its contract: no sample before this one is beyond the depth.
-use mathlib.Core.Path.{_≡_, sym, _∙_, ap, ap₂}
+use mathlib.Core.Path.{_≡_, sym, _∙_, ap, ap₂, subst₂}
 use mathlib.Core.List.{List}
 use mathlib.Core.Bool.{Bool, false, not}
 use Prim.Native.Nat.{ℕ, _-_}
@@ -8,9 +8,9 @@ use lib.Dec.{ltb}
 use borrow.Author.Needs.{needs}
 use borrow.Author.Tests.{lt-ltb, le-ltb}
 use Rattle.arithmetic.specs.Searches.{lowest}
-use Rattle.arithmetic.proofs.Searches.{Asked, asked-none, asked-next, lowest-here, lowest-none}
+use Rattle.arithmetic.proofs.Searches.{Asked, asked-all, asked-next, lowest-here, lowest-none}
 use Rattle.cubemap.specs.Frames.{sampleAt}
-use Rattle.cubemap.specs.Checks.{lowestBeyond}
+use Rattle.cubemap.specs.Checks.{sampleOK, lowestBeyond}
 use Rattle.cubemap.proofs.Framed.{bytes-number, beyond-search}
 use Rattle.frame.proofs.lowest_beyond.Statement.{statement}
 use Rattle.frame.proofs.lowest_beyond.Tie as tie
@@ -43,13 +43,18 @@ returns : tie.Need-returns Inv-loop μ-loop
 returns c =
     let l = c .before .before .before in
     let h = le-ltb _ _ (rw (c .before .sample .ensures .0) at (c .if1 .taken)) in
-    (sym (lowest-here (l .loop .inv) (omega arith) (ap not h)) ∙ searched (l .before), omega arith)
+    (sym (lowest-here (l .loop .inv) (omega arith) (ap not h)) ∙ searched (l .before .before), omega arith)
 
 returns-2 : tie.Need-returns-2 Inv-loop μ-loop
-returns-2 c = (sym (lowest-none (c .before .loop .inv) (omega arith)) ∙ searched (c .before .before), omega arith)
+returns-2 c = (sym (lowest-none (c .before .loop .inv) (omega arith)) ∙ searched (c .before .before .before), omega arith)
 
 loop-holds : tie.Need-loop-holds Inv-loop μ-loop
-loop-holds c = asked-none _ _ _
+loop-holds c =
+    let b = c .before in
+    let s = b .before .before .before .args in
+    subst₂ (λ bound count. Asked (beyond (s .bytes .now) bound) false count (c .blocks-ok .result)) (sym (b .sample-bound .ensures .0))
+    (sym (b .before .samples-in .ensures .0))
+    (asked-all (sampleOK (s .shape) (s .bytes .now)) _ _ (c .blocks-ok .ensures .1) (c .blocks-ok .ensures .0))
 
 samples-in-requires : tie.Need-samples-in-requires Inv-loop μ-loop
 samples-in-requires c κs = search needs
@@ -57,8 +62,11 @@ samples-in-requires c κs = search needs
 sample-bound-requires : tie.Need-sample-bound-requires Inv-loop μ-loop
 sample-bound-requires c κs = search needs
 
+blocks-ok-requires : tie.Need-blocks-ok-requires Inv-loop μ-loop
+blocks-ok-requires c κs = search needs
+
 sample-requires : tie.Need-sample-requires Inv-loop μ-loop
-sample-requires c κs = omega (arith, bytes-number (c .before .before .before .before .before .args .shape))
+sample-requires c κs = omega (arith, bytes-number (c .before .before .before .before .before .before .args .shape))
 
 add-index : tie.Need-add-index Inv-loop μ-loop
 add-index c = search needs
@@ -74,6 +82,7 @@ lowest-beyond-spec =
     μ-loop
     samples-in-requires
     sample-bound-requires
+    blocks-ok-requires
     loop-holds
     sample-requires
     returns

@@ -1,96 +1,30 @@
--- `samples_ok` meets its contract: the bits so far are below 2^D exactly where each sample so far is.
-use mathlib.Core.Path.{_≡_, refl, sym, _∙_, ap, ap₂}
-use mathlib.Core.List.{List}
-use mathlib.Core.Bool.{true, _&&_}
-use Prim.Native.Nat.{ℕ, _-_, _^_, _≤_}
+-- `samples_ok` meets its contract: the whole frame is one part.
+use mathlib.Core.Path.{sym, _∙_, ap}
+use Prim.Native.Nat.{_+_}
+use native.Mathlib.Nat.{zero-add}
 use native.Mathlib.Omega.{arith}
-use lib.Dec.{ltb}
-use lib.Pow.{pow-pos}
 use borrow.Author.Needs.{needs}
-use borrow.Author.Tests.{lt-ltb, ltb-true}
 use Rattle.arithmetic.specs.Searches.{allBelow}
-use Rattle.arithmetic.proofs.Bits.{or-below}
-use Rattle.arithmetic.proofs.Searches.{asked-none, all-pass, all-next}
-use Rattle.cubemap.specs.declared.Shape.{Shape}
+use Rattle.arithmetic.proofs.Searches.{all-cong}
 use Rattle.cubemap.specs.Checks.{sampleOK}
 use Rattle.cubemap.proofs.Framed.{bytes-number, samples-test}
 use Rattle.frame.proofs.samples_ok.Statement.{statement}
 use Rattle.frame.proofs.samples_ok.Tie as tie
 
--- the bits of the samples below i
-record Gathered (shape : Shape) (bytes : List ℕ) (count bits i : ℕ) : Type 0 where
-  bounded : i ≤ count
-  sixteen : ltb bits (2 ^ 16) ≡ true
-  agrees : ltb bits (2 ^ shape .depth) ≡ allBelow (sampleOK shape bytes) i
-
-abbrev Inv-loop : tie.InvT-loop
-Inv-loop shape bytes count bits₀ i₀ bits i = Gathered shape bytes count bits i
-
-abbrev μ-loop : tie.MeasureT-loop
-μ-loop shape bytes count bits₀ i₀ bits i = count - i
-
-returns : tie.Need-returns Inv-loop μ-loop
+returns : tie.Need-returns
 returns c =
-    let l = c .before .before in
-    let s = l .before .before .before .args in
-    let e : l .loop .i ≡ l .before .samples-in .result = omega arith in
-    ap (ltb (l .loop .bits)) (c .sample-bound .ensures .0) ∙ l .loop .inv .agrees
-    ∙ ap (allBelow (sampleOK (s .shape) (s .bytes .now))) (e ∙ l .before .samples-in .ensures .0)
-    ∙ sym (samples-test (s .shape) (s .bytes .now))
+    let s = c .before .before .before .args in
+    let test = sampleOK (s .shape) (s .bytes .now) in
+    c .part-ok .ensures ∙ all-cong (λ i. test (0 + i)) test (c .before .samples-in .result) (λ i h. ap test (zero-add i))
+    ∙ ap (allBelow test) (c .before .samples-in .ensures .0) ∙ sym (samples-test (s .shape) (s .bytes .now))
 
-loop-again : tie.Need-loop-again Inv-loop μ-loop
-loop-again c =
-    let l = c .before .before in
-    let s = l .before .before .before .args in
-    record {
-      bounded = omega arith;
-      sixteen = or-below 16 (l .loop .bits) (c .sample .result) ∙ ap₂ _&&_ (l .loop .inv .sixteen) (lt-ltb _ _ (c .sample .ensures .1));
-      agrees = or-below (s .shape .depth) (l .loop .bits) (c .sample .result)
-          ∙ ap₂ _&&_ (l .loop .inv .agrees) (ap (λ v. ltb v (2 ^ s .shape .depth)) (c .sample .ensures .0))
-          ∙ sym (all-next (sampleOK (s .shape) (s .bytes .now)) (l .loop .i));
-    }
-
-loop-holds : tie.Need-loop-holds Inv-loop μ-loop
-loop-holds c = record {
-  bounded = omega arith;
-  sixteen = refl;
-  agrees = lt-ltb _ _ (pow-pos (c .before .before .args .shape .depth)) ∙ sym (all-pass (asked-none _ true 0) (omega arith));
-}
-
-samples-in-requires : tie.Need-samples-in-requires Inv-loop μ-loop
+samples-in-requires : tie.Need-samples-in-requires
 samples-in-requires c κs = search needs
 
-sample-requires : tie.Need-sample-requires Inv-loop μ-loop
-sample-requires c κs = omega (arith, bytes-number (c .before .before .before .before .args .shape))
-
-cast-bits : tie.Need-cast-bits Inv-loop μ-loop
-cast-bits c = omega (arith, c .sample .ensures .1)
-
-add-i : tie.Need-add-i Inv-loop μ-loop
-add-i c = search needs
-
-loop-less : tie.Need-loop-less Inv-loop μ-loop
-loop-less c = search needs
-
-cast-result : tie.Need-cast-result Inv-loop μ-loop
-cast-result c = omega (arith, ltb-true (c .before .loop .bits) (2 ^ 16) (c .before .loop .inv .sixteen))
-
-sample-bound-requires : tie.Need-sample-bound-requires Inv-loop μ-loop
-sample-bound-requires c κs = search needs
+part-ok-requires : tie.Need-part-ok-requires
+part-ok-requires c κs =
+    let s = c .before .before in
+    (s .pre .1, omega (arith, bytes-number (s .args .shape)))
 
 pub samples-ok-spec : {M : Type 1} → statement M
-samples-ok-spec =
-    tie.close
-    (tie.spec
-    Inv-loop
-    μ-loop
-    samples-in-requires
-    loop-holds
-    sample-requires
-    cast-bits
-    add-i
-    loop-less
-    loop-again
-    cast-result
-    sample-bound-requires
-    returns)
+samples-ok-spec = tie.close (tie.spec samples-in-requires part-ok-requires returns)

@@ -14,17 +14,19 @@ use Rattle.cubemap.proofs.RotatedRays.{RotatedRay}
 use Rattle.cubemap.proofs.Rotations.{along}
 use Rattle.frame.specs.Placing.{placed}
 use Rattle.frame.proofs.Placing.{Placed, kept, none-placed, placed-run}
-use Rattle.resampling.specs.Plane.{valueOn}
+use Rattle.resampling.specs.Plane.{Scratch, valueOn}
 use Rattle.resampling.proofs.convert_along.Statement.{statement}
 use Rattle.resampling.proofs.convert_along.Tie as tie
 
 abbrev Inv-loop : tie.InvT-loop
-Inv-loop c source source-steps weights coordinates start ray-step at columns₀ rows₀ target₀ size from₀ columns rows target from =
+Inv-loop c source source-steps weights coordinates start ray-step at guesses₀ distances₀ reciprocals₀ sums₀ columns₀ rows₀ target₀ size from₀ guesses distances reciprocals
+    sums columns rows target from =
     Placed at (λ j. valueOn c source source-steps (along start (getD coordinates j (pos 0)) ray-step)) target₀ target size from
-    × (length columns ≡ 512) × (length rows ≡ 512)
+    × Scratch guesses distances reciprocals sums columns rows
 
 abbrev μ-loop : tie.MeasureT-loop
-μ-loop c source source-steps weights coordinates start ray-step at columns₀ rows₀ target₀ size from₀ columns rows target from = size - from
+μ-loop c source source-steps weights coordinates start ray-step at guesses₀ distances₀ reciprocals₀ sums₀ columns₀ rows₀ target₀ size from₀ guesses distances reciprocals
+    sums columns rows target from = size - from
 
 module _ (l : tie.At-loop Inv-loop μ-loop) where
   abbrev start : tie.Start Inv-loop μ-loop
@@ -65,7 +67,7 @@ module _ (l : tie.At-loop Inv-loop μ-loop) where
       joined h = omega arith
 
 loop-holds : tie.Need-loop-holds Inv-loop μ-loop
-loop-holds c = let p = c .before .before .before .pre .1 .1 in (none-placed _ _ _ _, p .0, p .1)
+loop-holds c = (none-placed _ _ _ _, c .before .before .before .pre .1 .1 .1)
 
 mul-face-along : tie.Need-mul-face-along Inv-loop μ-loop
 mul-face-along c = let h = start (c .before) .pre .1 .0 .0 in omega arith
@@ -101,24 +103,24 @@ stretch-end-requires c κs = ((start (l c) .pre .0 .1, start (l c) .pre .1 .0 .0
 
 convert-stretch-requires : tie.Need-convert-stretch-requires Inv-loop μ-loop
 convert-stretch-requires c κs =
-    let e : tie.After-stretch-end Inv-loop μ-loop = c .before .before .before in
+    let e : tie.After-stretch-end Inv-loop μ-loop = c .before .before .before .before .before .before .before in
     let f : tie.After-face-along Inv-loop μ-loop = e .before in
     let p = start (l f) .pre in
     let i = l f .loop .inv in
     let (above, below, one) = e .stretch-end .ensures in
-    (p .0, ((p .1 .0 .0, face-below f, omega arith, below, one), (p .1 .0 .1, omega (arith, same (l f), p .1 .0 .2), i .1, i .2)))
+    (p .0, ((p .1 .0 .0, face-below f, above, below, one), (p .1 .0 .1, omega (arith, same (l f), p .1 .0 .2), p .1 .1 .0, i .1)))
 
 loop-less : tie.Need-loop-less Inv-loop μ-loop
 loop-less c =
-    let e : tie.After-stretch-end Inv-loop μ-loop = c .before .before .before .before .before .before in
+    let e : tie.After-stretch-end Inv-loop μ-loop = c .before .before .before .before .before .before .before .before .before .before in
     omega (arith, e .stretch-end .ensures .0, e .stretch-end .ensures .1)
 
 loop-again : tie.Need-loop-again Inv-loop μ-loop
 loop-again c =
     let d : tie.After-convert-stretch Inv-loop μ-loop = c .before .before in
-    let e : tie.After-stretch-end Inv-loop μ-loop = d .before .before .before .before in
-    let (done, columns, rows) = d .convert-stretch .ensures in
-    (next (l (e .before)) (e .stretch-end .result) (e .stretch-end .ensures .0) (e .stretch-end .ensures .1) done, columns, rows)
+    let e : tie.After-stretch-end Inv-loop μ-loop = d .before .before .before .before .before .before .before .before in
+    let (done, tables) = d .convert-stretch .ensures in
+    (next (l (e .before)) (e .stretch-end .result) (e .stretch-end .ensures .0) (e .stretch-end .ensures .1) done, tables)
 
 same-length : tie.Need-same-length Inv-loop μ-loop
 same-length c = same (c .before)
@@ -126,7 +128,7 @@ same-length c = same (c .before)
 returns : tie.Need-returns Inv-loop μ-loop
 returns c =
     let i = c .before .loop .inv in
-    (i .0 .holds ∙ ap (placed (start (c .before) .args .target .now) (start (c .before) .args .at) (value (c .before))) (omega (arith, i .0 .bounded)), i .1, i .2)
+    (i .0 .holds ∙ ap (placed (start (c .before) .args .target .now) (start (c .before) .args .at) (value (c .before))) (omega (arith, i .0 .bounded)), i .1)
 
 pub convert-along-spec : {M : Type 1} → statement M
 convert-along-spec =

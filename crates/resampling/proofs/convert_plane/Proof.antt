@@ -7,18 +7,20 @@ use native.Mathlib.Omega.{arith}
 use lib.ListN.{length}
 use Rattle.cubemap.specs.Frames.{framed, layoutBytes, planeSamples}
 use Rattle.frame.specs.Placing.{placed}
-use Rattle.resampling.specs.Plane.{valueAtIndex}
+use Rattle.resampling.specs.Plane.{Scratch, valueAtIndex}
 use Rattle.frame.proofs.Placing.{Placed, kept, none-placed, placed-run, placed-all}
 use Rattle.resampling.proofs.convert_plane.Statement.{statement}
 use Rattle.resampling.proofs.convert_plane.Tie as tie
 
 abbrev Inv-loop : tie.InvT-loop
-Inv-loop c source source-steps weights coordinates layout target₀ runs columns₀ rows₀ run₀ target columns rows run =
+Inv-loop c source source-steps weights coordinates layout target₀ runs guesses₀ distances₀ reciprocals₀ sums₀ columns₀ rows₀ run₀ target guesses distances reciprocals sums
+    columns rows run =
     Placed 0 (valueAtIndex c (layoutBytes layout) source source-steps) target₀ target (planeSamples (c .target .size)) (run * c .target .size)
-    × (length columns ≡ 512) × (length rows ≡ 512)
+    × Scratch guesses distances reciprocals sums columns rows
 
 abbrev μ-loop : tie.MeasureT-loop
-μ-loop c source source-steps weights coordinates layout target₀ runs columns₀ rows₀ run₀ target columns rows run = runs - run
+μ-loop c source source-steps weights coordinates layout target₀ runs guesses₀ distances₀ reciprocals₀ sums₀ columns₀ rows₀ run₀ target guesses distances reciprocals sums
+    columns rows run = runs - run
 
 module _ (l : tie.At-loop Inv-loop μ-loop) where
   abbrev start : tie.Start Inv-loop μ-loop
@@ -66,21 +68,30 @@ returns c = done (c .before) (omega arith)
 
 loop-again : tie.Need-loop-again Inv-loop μ-loop
 loop-again c =
-    let l : tie.At-loop Inv-loop μ-loop = c .before .before .before .before .before .before .before in
-    let (done, columns, rows) = c .before .before .convert-run .ensures in
-    (next l (omega arith) done, columns, rows)
+    let l : tie.At-loop Inv-loop μ-loop = c .before .before .before .before .before .before .before .before .before .before .before in
+    let (done, tables) = c .before .before .convert-run .ensures in
+    (next l (omega arith) done, tables)
 
 loop-holds : tie.Need-loop-holds Inv-loop μ-loop
-loop-holds c =
-    (subst (Placed 0 _ _ _ _) (sym (zero-mul (c .before .before .before .before .args .c .target .size))) (none-placed _ _ _ _), refl, refl)
+loop-holds c = (
+  subst (Placed 0 _ _ _ _) (sym (zero-mul (c .before .before .before .before .args .c .target .size))) (none-placed _ _ _ _),
+  record {
+    guesses-whole = refl;
+    distances-whole = refl;
+    reciprocals-whole = refl;
+    sums-whole = refl;
+    columns-whole = refl;
+    rows-whole = refl;
+  },
+)
 
 mul-runs : tie.Need-mul-runs Inv-loop μ-loop
 mul-runs c = let h = c .before .before .before .before .pre .0 .1 .size-most in omega arith
 
 convert-run-requires : tie.Need-convert-run-requires Inv-loop μ-loop
 convert-run-requires c κs =
-    let l : tie.At-loop Inv-loop μ-loop = c .before .before .before .before in
-    (start l .pre .0, ((omega arith, same l ∙ start l .pre .1), (l .loop .inv .1, l .loop .inv .2)))
+    let l : tie.At-loop Inv-loop μ-loop = c .before .before .before .before .before .before .before .before in
+    (start l .pre .0, ((omega arith, same l ∙ start l .pre .1), l .loop .inv .1))
 
 add-run : tie.Need-add-run Inv-loop μ-loop
 add-run c = omega arith

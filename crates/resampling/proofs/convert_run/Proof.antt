@@ -93,13 +93,12 @@ module _ (d : tie.After-run-step) where
 
 returns : tie.Need-returns
 returns c =
-    let d : tie.After-run-step = c .before .before .before .before .before .before in
+    let d : tie.After-run-step = c .before .before .before .before .before .before .before .before .before .before in
     let a = s d .args in
-    let (done, columns, rows) = c .before .before .convert-along .ensures in (
+    let (done, tables) = c .before .before .convert-along .ensures in (
       done ∙ placed-cong (a .target .now) (a .run * a .c .target .size) _ _ (a .c .target .size)
           (λ j p. ap (valueOn (a .c) (a .source .now) (a .source-steps .now)) (ray-is d j p)),
-      columns,
-      rows,
+      tables,
     )
 
 div-slot : tie.Need-div-slot
@@ -150,10 +149,10 @@ mul-convert-along c = omega (arith, from-small (s c))
 
 convert-along-requires : tie.Need-convert-along-requires
 convert-along-requires c κs =
-    let d : tie.After-run-step = c .before .before .before in
+    let d : tie.After-run-step = c .before .before .before .before .before .before .before in
     let t : tie.Start = s d in (
       (t .pre .0 .0, runs-are d),
-      ((t .pre .0 .1 .size-most, from-small t, omega (arith, t .pre .1 .0 .1, room (A t) (run t) (t .pre .1 .0 .0))), t .pre .1 .1),
+      ((t .pre .0 .1 .size-most, from-small t, omega (arith, t .pre .1 .0 .1, room (A t) (run t) (t .pre .1 .0 .0))), (t .pre .0 .1 .spaced, t .pre .1 .1)),
     )
 
 same-length : tie.Need-same-length

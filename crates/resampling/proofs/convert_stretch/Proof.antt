@@ -17,7 +17,7 @@ use Rattle.frame.proofs.Placing.{placed-cong}
 use Rattle.indices.specs.Steps.{sampleBy}
 use Rattle.positions.specs.declared.Line.{Line}
 use Rattle.positions.specs.Lines.{Stretch, Positioned}
-use Rattle.resampling.proofs.StretchRays.{lineOf, stretch, located-at, on-faces}
+use Rattle.resampling.proofs.StretchRays.{lineOf, across-stretch, down-stretch, located-at, on-faces, spaced-evenly}
 use Rattle.resampling.proofs.convert_stretch.Statement.{statement}
 use Rattle.resampling.proofs.convert_stretch.Tie as tie
 
@@ -29,7 +29,7 @@ table4-requires-2 c κs = search needs
 
 module _ (c : tie.After-table42) where
   abbrev s : tie.Start
-  s = c .before .before .before .before .before
+  s = c .before .before .before .before .before .before .before
 
   -- two numbers of the machine as a line of the rays
   abbrev read : ℤ → ℤ → Line
@@ -76,40 +76,55 @@ module _ (c : tie.After-table42) where
   A-most : A ≤ 512
   A-most = s .pre .0 .0 .stepped .size-most
 
+  order : s .args .from ≤ s .args .to
+  order = omega (arith, s .pre .1 .0 .2)
+
   -- the positions of the stretch, as they are found
-  found-of : {columns rows : List ℤ}
-      → OfMachine (λ x y z. Positioned (s .args .c .source .format) A x y z (s .args .coordinates .now) (s .args .from) (s .args .to) columns rows)
-      → OfRays (λ x y z. Positioned (s .args .c .source .format) A x y z (s .args .coordinates .now) (s .args .from) (s .args .to) columns rows)
-  found-of {columns} {rows} p =
-      subst (λ T. T) (same (λ x y z. Positioned (s .args .c .source .format) A x y z (s .args .coordinates .now) (s .args .from) (s .args .to) columns rows)) p
+  abbrev FoundOf : List ℕ → List ℕ → Line → Line → Line → Type 0
+  FoundOf columns rows x y z =
+      Positioned (s .args .c .source .format) A x z (s .args .coordinates .now) (s .args .from) (s .args .to) columns
+      × Positioned (s .args .c .source .format) A y z (s .args .coordinates .now) (s .args .from) (s .args .to) rows
+
+  found-of : {columns rows : List ℕ} → OfMachine (FoundOf columns rows) → OfRays (FoundOf columns rows)
+  found-of {columns} {rows} p = subst (λ T. T) (same (FoundOf columns rows)) p
+
+evenly-requires : tie.Need-evenly-requires
+evenly-requires c κs = tt
 
 positions-along-requires : tie.Need-positions-along-requires
 positions-along-requires c κs =
-    let t : tie.After-table42 = c .before .before .before .before .before .before .before .before in
+    let t : tie.After-table42 = c .before .before .before .before .before .before .before .before .before .before .before .before in
     let a = s t .args in
     let one = s t .pre .1 .0 in
-    let room = s t .pre .1 .1 in (
-      subst (λ T. T) (sym (same t (λ x y z. Stretch (A t) x y z (a .coordinates .now) (a .from) (a .to))))
-          (stretch (A t) (A-most t) (s t .pre .0 .1) (one .0) (one .2) (one .3) (one .4)),
-      room .2,
-      room .3,
+    let room = s t .pre .1 .1 in
+    let w = room .3 in (
+      subst (λ T. T) (sym (same t (λ x y z. Stretch (A t) x z (a .coordinates .now) (a .from) (a .to) × Stretch (A t) y z (a .coordinates .now) (a .from) (a .to)))) (
+        across-stretch (A t) (A-most t) (s t .pre .0 .1) (one .0) (order t) (one .3) (one .4),
+        down-stretch (A t) (A-most t) (s t .pre .0 .1) (one .0) (order t) (one .3) (one .4),
+      ),
+      (
+        (one .2, (λ e. spaced-evenly (a .c .target) (room .2) (t .before .before .evenly .ensures e) (one .2) (one .3))),
+        (w .guesses-whole, w .distances-whole, w .reciprocals-whole, w .sums-whole, w .columns-whole, w .rows-whole),
+      ),
     )
 
 -- where the rays are located
 module _ (c : tie.After-positions-along) where
   abbrev t : tie.After-table42
-  t = c .before .before .before .before .before .before .before .before .before
+  t = c .before .before .before .before .before .before .before .before .before .before .before .before .before
 
 sample-along-requires : tie.Need-sample-along-requires
 sample-along-requires c κs =
-    let p : tie.After-positions-along = c .before .before .before in
+    let p : tie.After-positions-along = c .before .before .before .before in
     let b = s (t p) .pre in
     let one = b .1 .0 in
-    let room = b .1 .1 in (
+    let room = b .1 .1 in
+    let e = p .positions-along .ensures in
+    let f = found-of (t p) (e .0, e .1) in (
       (b .0 .0 .stepped, b .0 .0 .weighted, b .0 .0 .depth-ok, one .1),
       (
-        on-faces (A (t p)) (A-most (t p)) (b .0 .1) (one .0) (one .2) (one .3) (one .4) (found-of (t p) (p .positions-along .ensures .0)),
-        (one .2, omega (arith, one .0, one .3), room .0, omega (arith, room .1, one .3)),
+        on-faces (A (t p)) (A-most (t p)) (b .0 .1) (one .0) (order (t p)) (one .3) (one .4) (f .0) (f .1),
+        (order (t p), omega (arith, one .0, one .3), room .0, omega (arith, room .1, one .3), e .5),
       ),
     )
 
@@ -118,22 +133,32 @@ same-length c = search needs
 
 returns : tie.Need-returns
 returns c =
-    let p : tie.After-positions-along = c .before .before .before .before .before .before in
+    let p : tie.After-positions-along = c .before .before .before .before .before .before .before in
     let a = s (t p) .args in
-    let one = s (t p) .pre .1 .0 in (
-      c .before .before .sample-along .ensures
+    let one = s (t p) .pre .1 .0 in
+    let e = p .positions-along .ensures in
+    let f = found-of (t p) (e .0, e .1) in
+    let g = c .before .before .sample-along .ensures in (
+      g .0
           ∙ placed-cong (a .target .now) (a .at + a .from) _ _ (a .to - a .from)
           (λ j l. ap (sampleFrom (a .c .sampler) (A (t p)) (a .c .depth) (sampleBy (a .source .now) (a .source-steps .now)))
-          (located-at (A (t p)) (A-most (t p)) (s (t p) .pre .0 .1) (one .0) (one .2) (one .3) (one .4) (found-of (t p) (p .positions-along .ensures .0))
+          (located-at (A (t p)) (A-most (t p)) (s (t p) .pre .0 .1) (one .0) (order (t p)) (one .3) (one .4) (f .0) (f .1)
           (a .from + j) (omega arith) (omega arith))),
-      p .positions-along .ensures .1,
-      p .positions-along .ensures .2,
+      record {
+        guesses-whole = e .2;
+        distances-whole = e .3;
+        reciprocals-whole = e .4;
+        sums-whole = g .1;
+        columns-whole = e .6;
+        rows-whole = e .7;
+      },
     )
 
 pub convert-stretch-spec : {M : Type 1} → statement M
 convert-stretch-spec =
     tie.close
     (tie.spec
+    evenly-requires
     table4-requires
     table4-requires-2
     positions-along-requires

@@ -9,9 +9,9 @@ use borrow.Author.Needs.{needs}
 use Rattle.arithmetic.proofs.Held.{read-result}
 use Rattle.cubemap.specs.declared.Place.{Place}
 use Rattle.cubemap.specs.RayToPlace.{located}
-use Rattle.cubemap.specs.Samplers.{clip, cubicSum, rounded}
+use Rattle.cubemap.specs.Samplers.{clip, rounded}
 use Rattle.cubemap.proofs.Samplers.{cubic-value}
-use Rattle.sampling.specs.Taps.{onFace}
+use Rattle.sampling.specs.Taps.{onFace, positionOf}
 use Rattle.sampling.proofs.cubic.Statement.{statement}
 use Rattle.sampling.proofs.cubic.Tie as tie
 
@@ -20,12 +20,10 @@ returns c =
     let s : tie.Start = c .before .before .before .before .before in
     let sample : Place → ℕ = onFace (s .args .plane .now) (s .args .steps) in
     let bound = c .before .sample-bound .ensures in
-    let sum =
-    read-result tt (c .before .before .before .cubic-sum .ensures) .0
-    ∙ ap₂ (λ x y. cubicSum (s .args .size) sample (located 0 x y)) (toZ-ofZ (s .fits .column)) (toZ-ofZ (s .fits .row)) in
+    let sum = read-result tt (c .before .before .before .cubic-sum .ensures) .0 in
     let value = toZ-ofZ {w = w64} {z = c .before .before .rounded .result} (search needs) ∙ c .before .before .rounded .ensures ∙ ap rounded sum in (
       c .clip .ensures .0 ∙ ap₂ clip (bound .0) value
-          ∙ cubic-value (s .args .size) (s .args .depth) sample (located 0 (s .args .column) (s .args .row)),
+          ∙ cubic-value (s .args .size) (s .args .depth) sample (located 0 (positionOf (s .args .column)) (positionOf (s .args .row))),
       omega (arith, c .clip .ensures .1, bound .1),
     )
 

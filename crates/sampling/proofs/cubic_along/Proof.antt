@@ -1,25 +1,40 @@
 -- `cubic_along` meets its contract: after each position the samples up to it are placed, and every other byte is as it was.
 use mathlib.Core.Path.{_∙_, ap, ap₂}
-use Prim.Native.Nat.{ℕ, _+_, _*_, _-_}
+use Prim.Native.Nat.{ℕ, _+_, _*_, _-_, _≤_}
 use native.Mathlib.Omega.{arith}
-use lib.IntN.{pos}
 use lib.ListN.{getD}
 use lib.Seq.{sets}
 use borrow.Author.Needs.{needs}
 use Rattle.cubemap.specs.Interface.{littleEndian}
 use Rattle.frame.specs.Placing.{placed}
 use Rattle.frame.proofs.Placing.{Placed, kept, none-placed, placed-next}
-use Rattle.sampling.specs.Taps.{cubicOn}
-use Rattle.sampling.proofs.Stretches.{column-read, row-read, column-in, row-in}
+use Rattle.sampling.specs.Taps.{positionIn, cubicOn}
 use Rattle.sampling.proofs.cubic_along.Statement.{statement}
 use Rattle.sampling.proofs.cubic_along.Tie as tie
 
 abbrev Inv-loop : tie.InvT-loop
 Inv-loop plane size steps weights depth columns rows from to at target₀ start count n₀ target n =
-    Placed start (λ j. cubicOn plane steps size depth (getD columns (from + j) (pos 0)) (getD rows (from + j) (pos 0))) target₀ target count n
+    Placed start (λ j. cubicOn plane steps size depth (positionIn columns (from + j)) (positionIn rows (from + j))) target₀ target count n
 
 abbrev μ-loop : tie.MeasureT-loop
 μ-loop plane size steps weights depth columns rows from to at target₀ start count n₀ target n = count - n
+
+module _ (c : tie.In-loop Inv-loop μ-loop) where
+  abbrev start : tie.Start Inv-loop μ-loop
+  start = c .before .before .before .before
+
+  -- column and row in the tables
+  abbrev column : ℕ
+  column = getD (start .args .columns .now) (start .args .from + c .before .loop .n) 0
+
+  abbrev row : ℕ
+  row = getD (start .args .rows .now) (start .args .from + c .before .loop .n) 0
+
+  column-ok : column ≤ 64 * start .args .size
+  column-ok = start .pre .0 .2 .column-ok _ (omega arith) (omega arith)
+
+  row-ok : row ≤ 64 * start .args .size
+  row-ok = start .pre .0 .2 .row-ok _ (omega arith) (omega arith)
 
 returns : tie.Need-returns Inv-loop μ-loop
 returns c =
@@ -27,23 +42,22 @@ returns c =
     let a = l .before .before .before .args in
     l .loop .inv .holds
     ∙ ap (placed (a .target .now) (a .at + a .from)
-    (λ j. cubicOn (a .plane .now) (a .steps) (a .size) (a .depth) (getD (a .columns .now) (a .from + j) (pos 0)) (getD (a .rows .now) (a .from + j) (pos 0))))
+    (λ j. cubicOn (a .plane .now) (a .steps) (a .size) (a .depth) (positionIn (a .columns .now) (a .from + j)) (positionIn (a .rows .now) (a .from + j))))
     (omega (arith, l .loop .inv .bounded))
 
 loop-again : tie.Need-loop-again Inv-loop μ-loop
 loop-again c =
     let v = c .before .before .before .before in
-    let l = v .before .before .before .before in
+    let i : tie.In-loop Inv-loop μ-loop = v .before .before .before in
+    let l = i .before in
     let s = l .before .before .before in
     let a = s .args in
-    let p = s .pre .0 in
     let n : ℕ = l .loop .n in
     record {
       bounded = omega arith;
       holds = c .before .before .put-sample .ensures
           ∙ ap₂ (λ bytes x. sets bytes (2 * (a .at + a .from + n)) (littleEndian 2 x)) (l .loop .inv .holds)
-          (v .cubic .ensures .0 ∙ ap₂ (cubicOn (a .plane .now) (a .steps) (a .size) (a .depth))
-          (column-read (p .0 .size-most) (p .2) n (omega arith)) (row-read (p .0 .size-most) (p .2) n (omega arith)))
+          (v .cubic .ensures .0)
           ∙ placed-next (a .target .now) (a .at + a .from) _ n (omega arith);
     }
 
@@ -73,11 +87,9 @@ element-copy-out-cubic-2 c = omega arith
 
 cubic-requires : tie.Need-cubic-requires Inv-loop μ-loop
 cubic-requires c κs =
-    let l = c .before .before .before in
-    let s = l .before .before .before in
-    let p = s .pre .0 in
-    let n : ℕ = l .loop .n in
-    ((p .0, p .1, s .pre .1 .0 .0, column-in (p .0 .size-most) (p .2) n (omega arith), row-in (p .0 .size-most) (p .2) n (omega arith)), s .pre .1 .0 .1)
+    let i : tie.In-loop Inv-loop μ-loop = c .before .before in
+    let p = start i .pre in
+    ((p .0 .0, p .0 .1, p .1 .0 .0, column-ok i, row-ok i), p .1 .0 .1)
 
 add-put-sample : tie.Need-add-put-sample Inv-loop μ-loop
 add-put-sample c = omega arith

@@ -2,8 +2,7 @@
 use mathlib.Core.Path.{_≡_, sym, _∙_, ap, subst}
 use mathlib.Core.List.{List}
 use Prim.Native.Nat.{ℕ, _+_, _-_}
-use lib.IntN.{ℤ, pos}
-use lib.ListN.{getD}
+use lib.IntN.{ℤ}
 use borrow.Author.Needs.{needs}
 use Rattle.cubemap.specs.declared.Sampler.{Sampler}
 use Rattle.cubemap.specs.RayToPlace.{located}
@@ -12,7 +11,7 @@ use Rattle.frame.specs.Placing.{placed}
 use Rattle.frame.proofs.Placing.{placed-cong}
 use Rattle.indices.specs.Steps.{SteppedFace, sampleBy}
 use Rattle.indices.proofs.Stepping.{face-of}
-use Rattle.sampling.specs.Taps.{nearestOn, cubicOn}
+use Rattle.sampling.specs.Taps.{positionIn, nearestOn, cubicOn}
 use Rattle.sampling.proofs.Stretches.{nearest-on, cubic-on}
 use Rattle.sampling.proofs.sample_along.Statement.{statement}
 use Rattle.sampling.proofs.sample_along.Tie as tie
@@ -27,10 +26,10 @@ module _ (c : tie.After-steps-at) where
 
   -- position number j of the stretch
   abbrev column : ℕ → ℤ
-  column j = getD (start .args .columns .now) (start .args .from + j) (pos 0)
+  column j = positionIn (start .args .columns .now) (start .args .from + j)
 
   abbrev row : ℕ → ℤ
-  row j = getD (start .args .rows .now) (start .args .from + j) (pos 0)
+  row j = positionIn (start .args .rows .now) (start .args .from + j)
 
   -- what is to be stored, and that it is stored by functions that give the same
   abbrev value : Sampler → ℕ → ℕ
@@ -47,19 +46,24 @@ module _ (c : tie.After-steps-at) where
 
 returns : tie.Need-returns
 returns c =
-    let t : tie.After-steps-at = c .before .before .before .before .before .before in
-    let a = start t .args in
-    stored t Sampler.Nearest (λ j. nearestOn (a .plane .now) (t .steps-at .result) (a .size) (column t j) (row t j))
-    (λ j. nearest-on (a .size) (a .depth) (a .face) (a .plane .now) (a .steps .now) (t .steps-at .result) (t .steps-at .ensures) (column t j) (row t j))
-    (c .before .before .before .before .enum-told .given .1) (c .before .before .nearest-along .ensures)
+    let n : tie.After-nearest-along = c .before .before in
+    let t : tie.After-steps-at = n .before .before .before .before .before in
+    let a = start t .args in (
+      stored t Sampler.Nearest (λ j. nearestOn (a .plane .now) (t .steps-at .result) (a .size) (column t j) (row t j))
+          (λ j. nearest-on (a .size) (a .depth) (a .face) (a .plane .now) (a .steps .now) (t .steps-at .result) (t .steps-at .ensures) (column t j) (row t j))
+          (n .before .before .before .enum-told .given .1) (n .nearest-along .ensures .0),
+      n .nearest-along .ensures .1,
+    )
 
 returns-2 : tie.Need-returns-2
 returns-2 c =
     let t : tie.After-steps-at = c .before .before .before .before .before .before in
-    let a = start t .args in
-    stored t Sampler.Cubic (λ j. cubicOn (a .plane .now) (t .steps-at .result) (a .size) (a .depth) (column t j) (row t j))
-    (λ j. cubic-on (a .size) (a .depth) (a .face) (a .plane .now) (a .steps .now) (t .steps-at .result) (t .steps-at .ensures) (column t j) (row t j))
-    (c .before .before .before .before .enum-told2 .given .1) (c .before .before .cubic-along .ensures)
+    let a = start t .args in (
+      stored t Sampler.Cubic (λ j. cubicOn (a .plane .now) (t .steps-at .result) (a .size) (a .depth) (column t j) (row t j))
+          (λ j. cubic-on (a .size) (a .depth) (a .face) (a .plane .now) (a .steps .now) (t .steps-at .result) (t .steps-at .ensures) (column t j) (row t j))
+          (c .before .before .before .before .enum-told2 .given .1) (c .before .before .cubic-along .ensures),
+      start t .pre .1 .1 .4,
+    )
 
 steps-at-requires : tie.Need-steps-at-requires
 steps-at-requires c κs = search needs
@@ -69,7 +73,7 @@ enum-told c = search needs
 
 nearest-along-requires : tie.Need-nearest-along-requires
 nearest-along-requires c κs =
-    let t : tie.After-steps-at = c .before .before .before in
+    let t : tie.After-steps-at = c .before .before .before .before in
     let p = start t .pre in
     ((on t, p .0 .0 .size-least, p .1 .0), p .1 .1)
 
@@ -80,7 +84,7 @@ cubic-along-requires : tie.Need-cubic-along-requires
 cubic-along-requires c κs =
     let t : tie.After-steps-at = c .before .before .before in
     let p = start t .pre in
-    ((on t, p .0 .0 .size-least, p .1 .0), ((p .0 .1, p .0 .2), p .1 .1))
+    ((on t, p .0 .0 .size-least, p .1 .0), ((p .0 .1, p .0 .2), (p .1 .1 .0, p .1 .1 .1, p .1 .1 .2, p .1 .1 .3)))
 
 same-length : tie.Need-same-length
 same-length c = search needs

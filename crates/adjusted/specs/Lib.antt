@@ -1,0 +1,2 @@
+pub mod Adjusted
+pub mod Bends

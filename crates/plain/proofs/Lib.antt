@@ -1,0 +1,3 @@
+pub mod Confirming
+pub mod Moves
+pub mod Carrying

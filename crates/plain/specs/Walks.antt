@@ -1,0 +1,61 @@
+-- A stretch of evenly spaced columns, whose numbers change by the same amount from each column to the next.
+use mathlib.Core.Path.{_≡_}
+use mathlib.Core.List.{List}
+use Prim.Native.Nat.{ℕ, _+_, _*_, _-_, _≤_, _<_}
+use lib.IntN.{ℤ, pos, negℤ, natAbs, _+ℤ_, _-ℤ_, _*ℤ_}
+use lib.ListN.{getD}
+use Rattle.cubemap.specs.declared.Format.{Format}
+use Rattle.cubemap.specs.RayToPlace.{position64}
+use Rattle.plain.specs.declared.Walk.{Walk}
+use Rattle.plain.specs.declared.Carried.{Carried}
+
+-- the number at column i of the stretch, and its size
+abbrev pub walkAt : Walk → ℕ → ℤ
+walkAt w i = w .at +ℤ pos i *ℤ w .by
+
+abbrev pub sizeAt : Walk → ℕ → ℕ
+sizeAt w i = natAbs (walkAt w i)
+
+abbrev pub walk : ℤ → ℤ → Walk
+walk at by = record { at = at; by = by }
+
+-- a walk's first number is not negative, and it moves by no more than two such numbers lie apart
+pub record Start (at by : ℤ) : Type 0 where
+  pub at-small : natAbs at ≤ 1073741822
+  pub at-ahead : pos (natAbs at) ≡ at
+  pub by-small : natAbs by ≤ 2147483644
+
+-- no number of a walk is negative at its first `count` columns
+pub record Forward (w : Walk) (count : ℕ) : Type 0 where
+  pub start : Start (w .at) (w .by)
+  pub ahead : (i : ℕ) → i < count → pos (sizeAt w i) ≡ walkAt w i
+
+-- the sums x + d and the distances d of `count` columns: no ratio x / d exceeds 1, and each distance is within question 13
+pub record Walks (A : ℕ) (sum distance : Walk) (count : ℕ) : Type 0 where
+  pub size-most : A ≤ 512
+  pub count-least : 0 < count
+  pub count-most : count ≤ 512
+  pub sums : Forward sum count
+  pub distances : Forward distance count
+  pub positive : (i : ℕ) → i < count → 0 < sizeAt distance i
+  pub bounded : (i : ℕ) → i < count → sizeAt distance i ≤ 536870911
+  pub ratio : (i : ℕ) → i < count → sizeAt sum i ≤ 2 * sizeAt distance i
+
+-- the numerator of T + 32, 64·A·(x + d) + d
+abbrev pub numeratorAt : ℕ → Walk → Walk → ℕ → ℤ
+numeratorAt A sum distance i = pos (64 * A) *ℤ walkAt sum i +ℤ walkAt distance i
+
+-- what is carried from column to column, at the first: 2^62 − 1 less the numerator, and 2^40 more than the denominator 2·d. Each has what it rises by and
+-- what it falls by.
+pub record Carries (A : ℕ) (sum distance : Walk) (c : Carried) : Type 0 where
+  pub rest-is : pos (c .rest) ≡ pos 4611686018427387903 -ℤ numeratorAt A sum distance 0
+  pub rest-moves : pos (c .up) -ℤ pos (c .down) ≡ negℤ (pos (64 * A) *ℤ sum .by +ℤ distance .by)
+  pub rest-few : (c .up ≤ 281474976710656) × (c .down ≤ 281474976710656)
+  pub wide-is : pos (c .wide) ≡ pos 1099511627776 +ℤ pos 2 *ℤ walkAt distance 0
+  pub wide-moves : pos (c .wider) -ℤ pos (c .narrower) ≡ pos 2 *ℤ distance .by
+  pub wide-few : (c .wider ≤ 4294967296) × (c .narrower ≤ 4294967296)
+
+-- the table has T + 32 in CMP of each column, from the entry `from` on
+pub record Plain (A : ℕ) (sum distance : Walk) (from count : ℕ) (table : List ℕ) : Type 0 where
+  pub entry : (i : ℕ) → i < count
+      → position64 Format.Cmp A (walkAt sum i -ℤ walkAt distance i) (sizeAt distance i) ≡ pos (getD table (from + i) 0) -ℤ pos 32

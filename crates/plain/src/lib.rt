@@ -1,0 +1,339 @@
+// T + 32 in CMP along a stretch of evenly spaced columns: guessed by any means, and confirmed in whole numbers.
+ghost use mathlib.Core.Path.{_≡_};
+ghost use mathlib.Core.Bool.{true};
+ghost use Prim.Native.Nat.{_+_, _*_, _-_, _≤_, _<_};
+ghost use lib.IntN.{pos, negℤ, natAbs, _+ℤ_, _*ℤ_};
+ghost use lib.ListN.{length};
+ghost use Rattle.arithmetic.specs.Integers.{natural};
+ghost use Rattle.plain.specs.Walks.{walk, sizeAt, Start, Forward, Walks, Carries, Plain};
+
+// A number of the rays along a stretch: at + i·by at its column i.
+pub struct Walk {
+    pub at: i64,
+    pub by: i64,
+}
+
+// ---- confirmation
+
+// What is carried from column to column, each with what it rises by and what it falls by.
+struct Carried {
+    rest: u64,
+    up: u64,
+    down: u64,
+    wide: u64,
+    wider: u64,
+    narrower: u64,
+}
+
+// What a number rises by: the number, or 0 where it is negative.
+fn rise(z: i64) -> u64
+    ensures { λ r. ⌜ r ≡ natural z ⌝ }
+{
+    if z < 0 {
+        return 0;
+    }
+    z as u64
+}
+
+// What it falls by: its size where it is negative, else 0.
+fn fall(z: i64) -> u64
+    requires { ⌜ natAbs z ≤ 281474976710656 ⌝ }
+    ensures { λ r. ⌜ r ≡ natural (negℤ z) ⌝ }
+{
+    rise(0 - z)
+}
+
+// 64·A·s + d.
+fn numerator(size: u64, s: i64, d: i64) -> i64
+    requires { ⌜ (size ≤ 512) × (natAbs s ≤ 2147483644) × (natAbs d ≤ 2147483644) ⌝ }
+    ensures { λ r. ⌜ (r ≡ pos (64 * size) *ℤ s +ℤ d) × (natAbs r ≤ 281474976710656) ⌝ }
+{
+    64 * size as i64 * s + d
+}
+
+// What is carried, at the first column: s is its sum there, d its distance.
+fn carry_from(size: u64, s: i64, s_by: i64, d: i64, d_by: i64) -> Carried
+    requires { ⌜ (size ≤ 512) × Start s «s_by» × Start d «d_by» ⌝ }
+    ensures { λ r. ⌜ Carries size (walk s «s_by») (walk d «d_by») r ⌝ }
+{
+    let n = numerator(size, s, d);
+    let n_by = numerator(size, s_by, d_by);
+    Carried {
+        rest: 4611686018427387903 - rise(n),
+        up: fall(n_by),
+        down: rise(n_by),
+        wide: 1099511627776 + 2 * rise(d),
+        wider: 2 * rise(d_by),
+        narrower: 2 * fall(d_by),
+    }
+}
+
+// T + 32 of each column from its guess g: where g·2d lies within 2d of the numerator, that is g or g − 1. All are so where the bits that every upper end
+// has reach 2^62, and the bits that any lower end has do not. False where one is not; nothing is said of the table then.
+fn confirm(
+    size: u64,
+    sum: Walk,
+    distance: Walk,
+    shift: u64,
+    from: u64,
+    count: u64,
+    guesses: &[u64; 512],
+    table: &mut [u32; 512],
+) -> bool
+    requires { ⌜ Walks size sum distance count × (shift < 64) × (from + count ≤ 512) × (length (now table) ≡ 512) ⌝ }
+    ensures { λ r. ⌜ (r ≡ true → Plain size sum distance from count (now (table .exit))) × (length (now (table .exit)) ≡ 512) ⌝ }
+{
+    let s = sum.at;
+    let s_by = sum.by;
+    let d = distance.at;
+    let d_by = distance.by;
+    let c = carry_from(size, s, s_by, d, d_by);
+    let up = c.up;
+    let down = c.down;
+    let wider = c.wider;
+    let narrower = c.narrower;
+    let mut rest = c.rest;
+    let mut wide = c.wide;
+    let mut low: u64 = 9223372036854775807;
+    let mut high: u64 = 0;
+    let mut i: u64 = 0;
+    while i < count {
+        let at = (from + i) as usize;
+        let g = (guesses[at] >> shift) % 65536;
+        let by = wide % 4294967296;
+        let r = g * by + rest;
+        low = low & (r + by);
+        high = high | (r - by);
+        table[at] = (g - (r >> 62)) as u32;
+        rest = rest + up - down;
+        wide = wide + wider - narrower;
+        i += 1;
+    }
+    (4611686018427387904 <= low) & (high < 4611686018427387904)
+}
+
+// ---- guesses: nothing is promised of them but that they are made
+
+// a + b and a − b, less or more 2^64 where they exceed 64 bits.
+fn wrapped_sum(a: u64, b: u64) -> u64 {
+    if a <= 18446744073709551615 - b {
+        a + b
+    } else {
+        a - (18446744073709551615 - b) - 1
+    }
+}
+
+fn wrapped_difference(a: u64, b: u64) -> u64 {
+    if b <= a {
+        a - b
+    } else {
+        a + (18446744073709551615 - b) + 1
+    }
+}
+
+// The number at a column.
+fn walk_at(w: Walk, count: u64, i: u64) -> u64
+    requires { ⌜ Forward w count × (count ≤ 512) × (i < count) ⌝ }
+    ensures { λ r. ⌜ r ≡ sizeAt w i ⌝ }
+{
+    let at = w.at;
+    let by = w.by;
+    rise(at + i as i64 * by)
+}
+
+// T + 32 of a column and of its row at 2^(14 − 2·lg) to the unit, the row's 2^32 times that: by one division.
+fn node(lg: u64, size: u64, s: u64, t: u64, d: u64) -> u64
+    requires { ⌜ (lg ≤ 4) × (size ≤ 512) × (0 < d) × (s ≤ 2 * d) × (t ≤ 2 * d) ⌝ }
+{
+    let r = size * 9007199254740992 / d;
+    let shift = 34 + 2 * lg;
+    let column = ((s * r) >> shift) % 67108864;
+    let row = ((t * r) >> shift) % 67108864;
+    column + 4294967296 * row
+}
+
+// That at a column of the stretch.
+fn node_at(lg: u64, size: u64, s: Walk, t: Walk, d: Walk, count: u64, i: u64) -> u64
+    requires { ⌜ (lg ≤ 4) × Walks size s d count × Walks size t d count × (i < count) ⌝ }
+{
+    let across = walk_at(s, count, i);
+    let down = walk_at(t, count, i);
+    node(lg, size, across, down, walk_at(d, count, i))
+}
+
+// A guess at a node: 2^15 to the unit, and one more.
+fn guess_at(lg: u64, n: u64) -> u64
+    requires { ⌜ lg ≤ 4 ⌝ }
+{
+    wrapped_sum(n << (2 * lg + 1), 140737488388096)
+}
+
+// Eight guesses: the first, what is added to it, and what that grows by.
+fn eight(p: u64, first: u64, second: u64, from: u64, guesses: &mut [u64; 512])
+    requires { ⌜ (from + 8 ≤ 512) × (length (now guesses) ≡ 512) ⌝ }
+    ensures { λ _. ⌜ length (now (guesses .exit)) ≡ 512 ⌝ }
+{
+    let mut guess = p;
+    let mut step = first;
+    let mut i: u64 = 0;
+    while i < 8 {
+        guesses[(from + i) as usize] = guess;
+        guess = wrapped_sum(guess, step);
+        step = wrapped_sum(step, second);
+        i += 1;
+    }
+}
+
+// The guesses of `eights` times eight columns, twice 2^lg, along the parabola through the nodes at the first, in the middle and after the last.
+fn parabola(lg: u64, n0: u64, n1: u64, n2: u64, from: u64, eights: u64, guesses: &mut [u64; 512])
+    requires { ⌜ (lg ≤ 4) × (from + 8 * eights ≤ 512) × (length (now guesses) ≡ 512) ⌝ }
+    ensures { λ _. ⌜ length (now (guesses .exit)) ≡ 512 ⌝ }
+{
+    let bend = wrapped_difference(wrapped_sum(n0, n2), n1 << 1);
+    let slope = wrapped_difference(n1, n0) << (lg + 1);
+    let second = bend << 1;
+    let mut first = wrapped_sum(slope, wrapped_difference(bend, bend << lg));
+    let mut p = guess_at(lg, n0);
+    let mut i: u64 = 0;
+    while i < eights {
+        eight(p, first, second, from + 8 * i, guesses);
+        let bent = wrapped_difference(second << 5, second << 2);
+        p = wrapped_sum(p, wrapped_sum(first << 3, bent));
+        first = wrapped_sum(first, second << 3);
+        i += 1;
+    }
+}
+
+// The guesses of the columns from `first` on, each at a node of its own.
+fn guess_each(
+    lg: u64,
+    size: u64,
+    s: Walk,
+    t: Walk,
+    d: Walk,
+    from: u64,
+    first: u64,
+    count: u64,
+    guesses: &mut [u64; 512],
+)
+    requires { ⌜ (lg ≤ 4) × Walks size s d count × Walks size t d count × (from + count ≤ 512) × (length (now guesses) ≡ 512) ⌝ }
+    ensures { λ _. ⌜ length (now (guesses .exit)) ≡ 512 ⌝ }
+{
+    let mut i = first;
+    while i < count {
+        guesses[(from + i) as usize] = guess_at(lg, node_at(lg, size, s, t, d, count, i));
+        i += 1;
+    }
+}
+
+// The guesses of all columns by parabolas, each of `eights` times eight columns. The last one ends at the last column.
+fn guess_bent(
+    lg: u64,
+    eights: u64,
+    size: u64,
+    s: Walk,
+    t: Walk,
+    d: Walk,
+    from: u64,
+    count: u64,
+    guesses: &mut [u64; 512],
+)
+    requires { ⌜ (lg ≤ 4) × Walks size s d count × Walks size t d count × (from + count ≤ 512) × (length (now guesses) ≡ 512) ⌝ }
+    requires { ⌜ (0 < eights) × (eights ≤ 4) × (8 * eights < count) ⌝ }
+    ensures { λ _. ⌜ length (now (guesses .exit)) ≡ 512 ⌝ }
+{
+    let span = 8 * eights;
+    let half = 4 * eights;
+    let end = count - span;
+    let mut n0 = node_at(lg, size, s, t, d, count, 0);
+    let mut i: u64 = 0;
+    while i < end {
+        let n1 = node_at(lg, size, s, t, d, count, i + half);
+        let n2 = node_at(lg, size, s, t, d, count, i + span);
+        parabola(lg, n0, n1, n2, from + i, eights, guesses);
+        n0 = n2;
+        i += span;
+    }
+    let first = node_at(lg, size, s, t, d, count, end - 1);
+    let middle = node_at(lg, size, s, t, d, count, end - 1 + half);
+    let last = node_at(lg, size, s, t, d, count, count - 1);
+    parabola(lg, first, middle, last, from + (end - 1), eights, guesses);
+    guesses[(from + count - 1) as usize] = guess_at(lg, last);
+}
+
+// How many times eight columns a parabola may span, 0, 1, 2 or 4: the more, the less the distance changes from column to column.
+fn eights_of(by: u64, near: u64, count: u64) -> u64
+    requires { ⌜ 0 < count ⌝ }
+    ensures { λ r. ⌜ (r ≤ 4) × (8 * r < count) ⌝ }
+{
+    if count <= 8 {
+        return 0;
+    }
+    if near / 96 < by {
+        return 0;
+    }
+    if count <= 16 {
+        return 1;
+    }
+    if near / 256 < by {
+        return 1;
+    }
+    if count <= 32 {
+        return 2;
+    }
+    if near / 768 < by {
+        return 2;
+    }
+    4
+}
+
+// The guesses of all columns.
+fn guess_along(
+    size: u64,
+    s: Walk,
+    t: Walk,
+    d: Walk,
+    from: u64,
+    count: u64,
+    guesses: &mut [u64; 512],
+)
+    requires { ⌜ Walks size s d count × Walks size t d count × (from + count ≤ 512) × (length (now guesses) ≡ 512) ⌝ }
+    ensures { λ _. ⌜ length (now (guesses .exit)) ≡ 512 ⌝ }
+{
+    let first = walk_at(d, count, 0);
+    let last = walk_at(d, count, count - 1);
+    let near = if first < last { first } else { last };
+    let eights = eights_of(arithmetic::magnitude(d.by), near, count);
+    match eights {
+        0 => guess_each(2, size, s, t, d, from, 0, count, guesses),
+        1 => guess_bent(2, 1, size, s, t, d, from, count, guesses),
+        2 => guess_bent(3, 2, size, s, t, d, from, count, guesses),
+        _ => guess_bent(4, eights, size, s, t, d, from, count, guesses),
+    }
+}
+
+// ---- both
+
+// T + 32 of each column of a stretch, and of its row; s and t are their sums, d the distance. False where a guess is not confirmed: nothing is said of
+// the tables then.
+pub fn plain_along(
+    size: u64,
+    s: Walk,
+    t: Walk,
+    d: Walk,
+    from: u64,
+    count: u64,
+    guesses: &mut [u64; 512],
+    columns: &mut [u32; 512],
+    rows: &mut [u32; 512],
+) -> bool
+    requires { ⌜ Walks size s d count × Walks size t d count × (from + count ≤ 512) ⌝ }
+    requires { ⌜ (length (now guesses) ≡ 512) × (length (now columns) ≡ 512) × (length (now rows) ≡ 512) ⌝ }
+    ensures { λ r. ⌜ (r ≡ true → Plain size s d from count (now (columns .exit)) × Plain size t d from count (now (rows .exit)))
+        × (length (now (guesses .exit)) ≡ 512) × (length (now (columns .exit)) ≡ 512) × (length (now (rows .exit)) ≡ 512) ⌝ }
+{
+    guess_along(size, s, t, d, from, count, guesses);
+    let across = confirm(size, s, d, 15, from, count, guesses, columns);
+    let down = confirm(size, t, d, 47, from, count, guesses, rows);
+    across & down
+}

@@ -1,0 +1,4 @@
+pub mod Filling
+pub mod Walking
+pub mod Adjusting
+pub mod Parts

@@ -1,0 +1,32 @@
+-- `cmp_along` meets its contract: confirmed, or by division.
+use borrow.Author.Needs.{needs}
+use Rattle.stretches.proofs.cmp_along.Statement.{statement}
+use Rattle.stretches.proofs.cmp_along.Tie as tie
+
+plain-stretch-requires : tie.Need-plain-stretch-requires
+plain-stretch-requires c κs = search needs
+
+returns : tie.Need-returns
+returns c =
+    let g = c .before .plain-stretch .ensures in
+    let f = g .0 (c .if1 .taken) in
+    (f .0, f .1, g .1, g .2, g .3)
+
+positions-by-division-requires : tie.Need-positions-by-division-requires
+positions-by-division-requires c κs = search needs
+
+positions-by-division-requires-2 : tie.Need-positions-by-division-requires-2
+positions-by-division-requires-2 c κs = search needs
+
+returns-2 : tie.Need-returns-2
+returns-2 c = search needs
+
+pub cmp-along-spec : {M : Type 1} → statement M
+cmp-along-spec =
+    tie.close
+    (tie.spec
+    plain-stretch-requires
+    returns
+    positions-by-division-requires
+    positions-by-division-requires-2
+    returns-2)
