@@ -132,12 +132,16 @@ fn negative(sums: &[u32; 512], distances: &[u32; 512], j: u64) -> bool
     sums[j as usize] < distances[j as usize]
 }
 
-// Where the sign of x changes along a stretch, by bisection: a guess, which the flags then confirm.
+// Where the sign of x changes along a stretch, by bisection; `to` where the first and the last column have one sign. The cut is a guess that the
+// flags then confirm, so an early answer is no promise.
 fn cut_of(sums: &[u32; 512], distances: &[u32; 512], from: u64, to: u64) -> u64
     requires { ⌜ (from < to) × (to ≤ 512) ⌝ }
     ensures { λ r. ⌜ (from ≤ r) × (r ≤ to) ⌝ }
 {
     let sign = negative(sums, distances, from);
+    if negative(sums, distances, to - 1) == sign {
+        return to;
+    }
     let mut low = from;
     let mut high = to;
     while low + 1 < high {

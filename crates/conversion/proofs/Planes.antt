@@ -17,8 +17,8 @@ use Rattle.cubemap.proofs.Layouts.{layout-holds}
 use Rattle.cubemap.proofs.Locate.{locate-on-face}
 use Rattle.cubemap.proofs.Passed.{size-range, ConvertPassed}
 use Rattle.indices.specs.Steps.{LeadsTo}
-use Rattle.indices.proofs.Stepping.{stepped-plane}
-use Rattle.sampling.specs.Taps.{IsWeights}
+use Rattle.indices.proofs.Stepping.{shallow-plane, stepped-plane}
+use Rattle.taps.specs.Taps.{IsWeights}
 use Rattle.sampling.proofs.ByLayout.{value-by-layout}
 use Rattle.resampling.specs.declared.Conversion.{Conversion}
 use Rattle.resampling.specs.Plane.{SourceReady, TargetReady, valueOn, valueAtIndex}
@@ -47,6 +47,7 @@ module _ (s : ConvertSettings) (m : ℕ) (source : List ℕ) (passed : ConvertPa
         let size = size-range (s .sourceShape .size) (passed .source-size) in
         record {
           stepped = stepped-plane (s .sourceShape .size) (s .sourceLayout) steps leads (size .at-least) (size .at-most) (source-bytes passed);
+          shallow = shallow-plane (s .sourceShape) source (passed .depth) (passed .samples);
           weighted = w;
           depth-ok = passed .depth;
         }

@@ -162,7 +162,7 @@ fn convert_frame(
 {
     let c = conversion_of(shape, target_size, target_format, sampler, rotation);
     let steps = indices::face_steps(shape.size, frame::layout_of(source_layout));
-    let weights = sampling::tap_weights();
+    let weights = taps::tap_weights();
     let coordinates = geometry::face_coordinates(geometry::format_of(target_format), target_size);
     resampling::convert_plane(
         c,

@@ -2,25 +2,33 @@
 use mathlib.Core.Path.{_≡_, refl, sym, _∙_, ap, subst}
 use mathlib.Core.Bool.{Bool, true, false, cond}
 use mathlib.Core.List.{List, [], _∷_}
-use Prim.Native.Nat.{ℕ, _+_, _*_, _-_, _/_, _%_, _≤_, _<_}
+use Prim.Native.Nat.{ℕ, _+_, _*_, _-_, _/_, _%_, _^_, _≤_, _<_}
 use native.Mathlib.Nat.{mul-le-mul}
+use native.Mathlib.Decide.{ℕ-discrete}
 use native.Mathlib.Omega.{arith}
 use lib.ListN.{length}
-use lib.IntN.{ℤ, pos, negℤ, _+ℤ_, _*ℤ_}
+use lib.IntN.{ℤ, pos, negsuc, negℤ, natAbs, _+ℤ_, _*ℤ_}
 use lib.Dec.{T}
 use lib.Signed.{nonNeg}
+use mir.Syntax.{w64}
+use mir.Val.{toZ, ofZ}
 use Rattle.arithmetic.specs.Integers.{natural}
+use Rattle.arithmetic.proofs.Held.{held}
 use Rattle.arithmetic.proofs.Sizes.{pos-inj, natAbs-neg}
 use Rattle.arithmetic.proofs.Ring.{var, con, _⊕_, _⊗_, ⊖, solve}
 use Rattle.arithmetic.proofs.Tests.{cond-both}
 use Rattle.cubemap.specs.declared.Place.{Place}
+use Rattle.cubemap.specs.declared.Shape.{Shape}
 use Rattle.cubemap.specs.Frames.{place, IsPlace, index, sampleAt, sampleAtPlace}
 use Rattle.cubemap.specs.Frames.{planeSamples, spot, quarterTurns, indexInSlot}
 use Rattle.cubemap.proofs.Indices.{SpotWithin, quarterTurns-within, no-turn, one-turn, two-turns, three-turns, slot-index, index-below}
+use Rattle.cubemap.specs.Checks.{depthOK, samplesOK}
+use Rattle.cubemap.proofs.Framed.{samples-number, samples-below}
+use Rattle.cubemap.proofs.Passed.{depth-levels}
 use Rattle.cubemap.proofs.Scores.{exchangedOn}
 use Rattle.indices.specs.declared.FaceSteps.{FaceSteps}
-use Rattle.indices.specs.Steps.{stepped, Steps, FaceLeads, stepsIn, LeadsTo, exchanged, alongLines, aligned, Aligned}
-use Rattle.indices.specs.Steps.{SteppedFace, SteppedPlane, sampleBySteps, sampleBy}
+use Rattle.indices.specs.Steps.{stepped, Lined, Steps, FaceLeads, stepsIn, LeadsTo, exchanged, alongLines, aligned, Aligned}
+use Rattle.indices.specs.Steps.{Shallow, SteppedFace, SteppedPlane, sampleBySteps, sampleBy}
 
 abbrev pub steps : ℤ → ℤ → ℤ → FaceSteps
 steps base across down = record { base = base; across = across; down = down }
@@ -85,6 +93,7 @@ module _ (A slot : ℕ) (a : 1 ≤ A) (b : A ≤ 512) (h : slot < 6) where
     down-small = omega arith;
     gives = λ m n p q. ap pos (along m n) ∙ turned 0 m n m n (no-turn A (spot m n));
     below = turned-below 0;
+    lined = λ h. absurd (h refl);
   }
     where
       along : (m n : ℕ) → corner + m * 1 + n * (3 * A) ≡ at m n
@@ -97,6 +106,7 @@ module _ (A slot : ℕ) (a : 1 ≤ A) (b : A ≤ 512) (h : slot < 6) where
     down-small = omega arith;
     gives = λ m n p q. from-back {y = at (A - 1 - n) m} n 1 (omega arith) ∙ turned 1 m n (A - 1 - n) m (one-turn A (spot m n));
     below = turned-below 1;
+    lined = λ h. refl;
   }
 
   pub steps-2 : Steps A (steps (pos (corner + (A - 1) * (3 * A) + (A - 1))) (negℤ (pos 1)) (negℤ (pos (3 * A))))
@@ -111,6 +121,7 @@ module _ (A slot : ℕ) (a : 1 ≤ A) (b : A ≤ 512) (h : slot < 6) where
         ∙ back (at (A - 1 - m) (A - 1 - n)) n (3 * A)
         ∙ turned 2 m n (A - 1 - m) (A - 1 - n) (two-turns A (spot m n));
     below = turned-below 2;
+    lined = λ h. absurd (h refl);
   }
 
   pub steps-3 : Steps A (steps (pos (corner + (A - 1) * (3 * A))) (negℤ (pos (3 * A))) (pos 1))
@@ -124,6 +135,7 @@ module _ (A slot : ℕ) (a : 1 ≤ A) (b : A ≤ 512) (h : slot < 6) where
         ∙ ap pos (beside m n)
         ∙ turned 3 m n n (A - 1 - m) (three-turns A (spot m n) (record { column-ok = p; row-ok = q }));
     below = turned-below 3;
+    lined = λ h. refl;
   }
     where
       beside : (m n : ℕ) → at 0 (A - 1 - m) + n * 1 ≡ at n (A - 1 - m)
@@ -138,6 +150,7 @@ steps-cong {A} e s = record {
   down-small = s .down-small;
   gives = λ m n p q. s .gives m n p q ∙ ap pos (e m n p q);
   below = λ m n p q. subst (λ i. i < planeSamples A) (e m n p q) (s .below m n p q);
+  lined = s .lined;
 }
 
 -- what they give is not negative
@@ -160,6 +173,28 @@ steps-unbroken {s = s} {at} w e m n p q = pos-inj (at m n) (at 0 n + m)
     (var 0 ⊕ con (pos 0) ⊗ var 2 ⊕ var 3 ⊕ var 1) tt
     ∙ ap (λ z. z +ℤ pos m) (w .gives 0 n (omega arith) q))
 
+-- ---- along the lines of a frame
+
+-- a step across that is read as 1, and one that is not
+pub step-ahead : (s : FaceSteps) → Lined s → ofZ w64 (s .across) ≡ 1 → s .across ≡ pos 1
+step-ahead s l e = sym (held (s .across) {B = 1} (omega (arith, l)) tt .is) ∙ ap (toZ w64) e
+
+pub step-back : (s : FaceSteps) → Lined s → (ofZ w64 (s .across) ≡ 1 → ⊥) → s .across ≡ negℤ (pos 1)
+step-back s l f = go (s .across) l (λ e. f (ap (ofZ w64) e))
+  where
+    go : (z : ℤ) → natAbs z ≡ 1 → (z ≡ pos 1 → ⊥) → z ≡ negℤ (pos 1)
+    go (pos n) e f = absurd (f (ap pos e))
+    go (negsuc n) e f = let d : n ≡ 0 = omega (arith, e) in ap negsuc d
+
+-- ---- planes
+
+-- the samples of a frame that has passed questions 3, 10 and 11
+pub shallow-plane : (z : Shape) (bytes : List ℕ) → T (depthOK (z .depth)) → T (samplesOK z bytes) → Shallow (z .size) bytes
+shallow-plane z bytes depth samples = record { within = λ i l. small (sampleAt bytes i) (samples-below z bytes samples i (omega (arith, samples-number z))) }
+  where
+    small : (v : ℕ) → v < 2 ^ z .depth → v < 4096
+    small v h = omega (arith, depth-levels (z .depth) depth)
+
 -- each face of a plane with steps
 pub face-of : {A : ℕ} {plane : List ℕ} {table : List ℤ} → SteppedPlane A plane table → (f : ℕ) → f < 6 → SteppedFace A plane (stepsIn table f)
 face-of p f h = record { size-most = p .size-most; whole = p .whole; leads = p .leads f h }
@@ -177,7 +212,20 @@ exchanged-leads {A} {s} l = record {
   down-small = l .across-small;
   gives = λ m n p q. exchanged-stepped s m n ∙ l .gives n m q p ∙ ap (λ z. pos (natural z)) (sym (exchanged-stepped s m n));
   below = λ m n p q. subst (λ z. natural z < planeSamples A) (sym (exchanged-stepped s m n)) (l .below n m q p);
+  lined = λ h. other (ℕ-discrete (natAbs (s .across)) 1) h;
 }
+  where
+    other : Dec (natAbs (s .across) ≡ 1) → (natAbs (s .down) ≡ 1 → ⊥) → natAbs (s .across) ≡ 1
+    other (yes e) h = e
+    other (no n) h = absurd (h (l .lined n))
+
+-- and those of a face
+pub exchanged-face : {A : ℕ} {plane : List ℕ} {s : FaceSteps} → SteppedFace A plane s → SteppedFace A plane (exchanged s)
+exchanged-face p = record { size-most = p .size-most; whole = p .whole; leads = exchanged-leads (p .leads) }
+
+-- what they read
+pub exchanged-sample : (plane : List ℕ) (s : FaceSteps) (m n : ℕ) → sampleBySteps plane (exchanged s) m n ≡ sampleBySteps plane s n m
+exchanged-sample plane s m n = ap (λ z. sampleAt plane (natural z)) (exchanged-stepped s m n)
 
 aligned-leads : {A : ℕ} {s : FaceSteps} (g : FaceSteps) → FaceLeads A s → FaceLeads A (aligned g s)
 aligned-leads {A} {s} g l = cond-both (FaceLeads A) (alongLines g) s (exchanged s) (λ t. l) (λ t. exchanged-leads l)
@@ -206,7 +254,7 @@ module _ (guide table r : List ℤ) (e : Aligned guide table r) where
       go : (b : Bool) → sampleBySteps plane (cond b s (exchanged s)) (P .column) (P .row)
           ≡ sampleBy plane table (cond b P (place (P .face) (P .row) (P .column)))
       go true = refl
-      go false = ap (λ z. sampleAt plane (natural z)) (exchanged-stepped s (P .column) (P .row))
+      go false = exchanged-sample plane s (P .column) (P .row)
 
 -- ---- a table that leads to the indices of a layout
 

@@ -15,13 +15,19 @@ use Rattle.indices.specs.declared.FaceSteps.{FaceSteps}
 abbrev pub stepped : FaceSteps → ℕ → ℕ → ℤ
 stepped s m n = s .base +ℤ pos m *ℤ s .across +ℤ pos n *ℤ s .down
 
--- for each column m and row n of a face of size A the steps give the index `at m n`; a frame has at most 6·512² samples, and a row of it 3·512
+-- the rows of a face run along the lines of the frame, ahead or back
+abbrev pub Lined : FaceSteps → Type 0
+Lined s = natAbs (s .across) ≡ 1
+
+-- for each column m and row n of a face of size A the steps give the index `at m n`; a frame has at most 6·512² samples, and a row of it 3·512. The rows of
+-- the face run along the lines of the frame, or its columns do
 pub record Steps (A : ℕ) (s : FaceSteps) (at : ℕ → ℕ → ℕ) : Type 0 where
   pub base-small : natAbs (s .base) ≤ 1572864
   pub across-small : natAbs (s .across) ≤ 1536
   pub down-small : natAbs (s .down) ≤ 1536
   pub gives : (m n : ℕ) → m < A → n < A → stepped s m n ≡ pos (at m n)
   pub below : (m n : ℕ) → m < A → n < A → at m n < planeSamples A
+  pub lined : (Lined s → ⊥) → natAbs (s .down) ≡ 1
 
 -- the steps of a face lead from each of its columns and rows to a sample of a plane
 abbrev pub FaceLeads : ℕ → FaceSteps → Type 0
@@ -62,6 +68,10 @@ abbrev pub Aligned : List ℤ → List ℤ → List ℤ → Type 0
 Aligned guide table r = (f : ℕ) → f < 6 → stepsIn r f ≡ aligned (stepsIn guide f) (stepsIn table f)
 
 -- ---- the bytes of a plane of face size A, and steps to its samples
+
+-- each sample is within the greatest depth
+pub record Shallow (A : ℕ) (plane : List ℕ) : Type 0 where
+  pub within : (i : ℕ) → i < planeSamples A → sampleAt plane i < 4096
 
 -- those of a face
 pub record SteppedFace (A : ℕ) (plane : List ℕ) (s : FaceSteps) : Type 0 where

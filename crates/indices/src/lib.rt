@@ -10,7 +10,7 @@ ghost use Rattle.cubemap.specs.Frames.{layoutBytes, spot, quarterTurns, indexIn
 ghost use Rattle.cubemap.specs.Frames as paper;
 ghost use Rattle.cubemap.specs.Checks.{layoutOK};
 ghost use Rattle.indices.specs.Steps as by;
-ghost use Rattle.indices.specs.Steps.{stepped, Steps, stepsIn, withSteps, LeadsTo, Aligned, SteppedFace, sampleBySteps};
+ghost use Rattle.indices.specs.Steps.{stepped, Lined, Steps, stepsIn, withSteps, LeadsTo, Aligned, SteppedFace, sampleBySteps};
 use cubemap::Layout;
 use cubemap::Place;
 
@@ -110,7 +110,7 @@ pub fn steps_at(table: &[i64; 18], face: u64) -> FaceSteps
 }
 
 // The steps with columns and rows exchanged.
-fn exchanged(steps: FaceSteps) -> FaceSteps
+pub fn exchanged(steps: FaceSteps) -> FaceSteps
     ensures { λ r. ⌜ r ≡ by.exchanged steps ⌝ }
 {
     let base = steps.base;
@@ -159,6 +159,23 @@ pub fn step_to(steps: FaceSteps, column: u64, row: u64) -> u64
     let across = steps.across;
     let down = steps.down;
     (base + column as i64 * across + row as i64 * down) as u64
+}
+
+// The same in 32 bits, for a face whose rows run along the lines of the frame: a step across is 1 or −1, and takes no multiplication.
+pub fn step_along(steps: FaceSteps, column: u32, row: u32) -> u32
+    requires { ⌜ (natAbs (steps .base) ≤ 1572864) × Lined steps × (natAbs (steps .down) ≤ 1536) ⌝ }
+    requires { ⌜ (column < 512) × (row < 512) × T (nonNeg (stepped steps column row)) ⌝ }
+    ensures { λ r. ⌜ r ≡ natural (stepped steps column row) ⌝ }
+{
+    let base = steps.base as i32;
+    let down = steps.down as i32;
+    let m = column as i32;
+    let n = row as i32;
+    if steps.across == 1 {
+        (base + m + n * down) as u32
+    } else {
+        (base - m + n * down) as u32
+    }
 }
 
 // The sample at a column and a row of a face, by its steps.

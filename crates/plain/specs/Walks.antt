@@ -1,8 +1,8 @@
 -- A stretch of evenly spaced columns, whose numbers change by the same amount from each column to the next.
 use mathlib.Core.Path.{_≡_}
 use mathlib.Core.List.{List}
-use Prim.Native.Nat.{ℕ, _+_, _*_, _-_, _≤_, _<_}
-use lib.IntN.{ℤ, pos, negℤ, natAbs, _+ℤ_, _-ℤ_, _*ℤ_}
+use Prim.Native.Nat.{ℕ, _+_, _*_, _≤_, _<_}
+use lib.IntN.{ℤ, pos, natAbs, _+ℤ_, _-ℤ_, _*ℤ_}
 use lib.ListN.{getD}
 use Rattle.cubemap.specs.declared.Format.{Format}
 use Rattle.cubemap.specs.RayToPlace.{position64}
@@ -41,19 +41,19 @@ pub record Walks (A : ℕ) (sum distance : Walk) (count : ℕ) : Type 0 where
   pub bounded : (i : ℕ) → i < count → sizeAt distance i ≤ 536870911
   pub ratio : (i : ℕ) → i < count → sizeAt sum i ≤ 2 * sizeAt distance i
 
--- the numerator of T + 32, 64·A·(x + d) + d
-abbrev pub numeratorAt : ℕ → Walk → Walk → ℕ → ℤ
-numeratorAt A sum distance i = pos (64 * A) *ℤ walkAt sum i +ℤ walkAt distance i
+-- 2^62 − 1 less the numerator of T + 32, 64·A·(x + d) + d
+abbrev pub restAt : ℕ → Walk → Walk → ℕ → ℤ
+restAt A sum distance i = pos 4611686018427387903 -ℤ (pos (64 * A) *ℤ walkAt sum i +ℤ walkAt distance i)
 
--- what is carried from column to column, at the first: 2^62 − 1 less the numerator, and 2^40 more than the denominator 2·d. Each has what it rises by and
--- what it falls by.
-pub record Carries (A : ℕ) (sum distance : Walk) (c : Carried) : Type 0 where
-  pub rest-is : pos (c .rest) ≡ pos 4611686018427387903 -ℤ numeratorAt A sum distance 0
-  pub rest-moves : pos (c .up) -ℤ pos (c .down) ≡ negℤ (pos (64 * A) *ℤ sum .by +ℤ distance .by)
-  pub rest-few : (c .up ≤ 281474976710656) × (c .down ≤ 281474976710656)
-  pub wide-is : pos (c .wide) ≡ pos 1099511627776 +ℤ pos 2 *ℤ walkAt distance 0
-  pub wide-moves : pos (c .wider) -ℤ pos (c .narrower) ≡ pos 2 *ℤ distance .by
-  pub wide-few : (c .wider ≤ 4294967296) × (c .narrower ≤ 4294967296)
+-- 2^40 more than its denominator, 2·d
+abbrev pub widthAt : Walk → ℕ → ℤ
+widthAt distance i = pos 1099511627776 +ℤ pos 2 *ℤ walkAt distance i
+
+-- a number is carried from column to column: it begins with that of the first, and what it rises by less what it falls by leads to that of the next
+pub record Carries (most : ℕ) (number : ℕ → ℤ) (c : Carried) : Type 0 where
+  pub first : pos (c .at) ≡ number 0
+  pub next : (i : ℕ) → number i +ℤ (pos (c .up) -ℤ pos (c .down)) ≡ number (i + 1)
+  pub few : (c .up ≤ most) × (c .down ≤ most)
 
 -- the table has T + 32 in CMP of each column, from the entry `from` on
 pub record Plain (A : ℕ) (sum distance : Walk) (from count : ℕ) (table : List ℕ) : Type 0 where

@@ -5,7 +5,7 @@ ghost use Prim.Native.Nat.{_+_, _*_, _-_, _≤_, _<_};
 ghost use lib.IntN.{pos, negℤ, natAbs, _+ℤ_, _*ℤ_};
 ghost use lib.ListN.{length};
 ghost use Rattle.arithmetic.specs.Integers.{natural};
-ghost use Rattle.plain.specs.Walks.{walk, sizeAt, Start, Forward, Walks, Carries, Plain};
+ghost use Rattle.plain.specs.Walks.{sizeAt, restAt, widthAt, Start, Forward, Walks, Carries, Plain};
 
 // A number of the rays along a stretch: at + i·by at its column i.
 pub struct Walk {
@@ -15,14 +15,11 @@ pub struct Walk {
 
 // ---- confirmation
 
-// What is carried from column to column, each with what it rises by and what it falls by.
+// A number that is carried from column to column, with what it rises by and what it falls by.
 struct Carried {
-    rest: u64,
+    at: u64,
     up: u64,
     down: u64,
-    wide: u64,
-    wider: u64,
-    narrower: u64,
 }
 
 // What a number rises by: the number, or 0 where it is negative.
@@ -51,61 +48,81 @@ fn numerator(size: u64, s: i64, d: i64) -> i64
     64 * size as i64 * s + d
 }
 
-// What is carried, at the first column: s is its sum there, d its distance.
-fn carry_from(size: u64, s: i64, s_by: i64, d: i64, d_by: i64) -> Carried
-    requires { ⌜ (size ≤ 512) × Start s «s_by» × Start d «d_by» ⌝ }
-    ensures { λ r. ⌜ Carries size (walk s «s_by») (walk d «d_by») r ⌝ }
+// 2^62 − 1 less the numerator, from the first column on: s has the sums, d the distances.
+fn rest_from(size: u64, s: Walk, d: Walk) -> Carried
+    requires { ⌜ (size ≤ 512) × Start (s .at) (s .by) × Start (d .at) (d .by) ⌝ }
+    ensures { λ r. ⌜ Carries 281474976710656 (restAt size s d) r ⌝ }
 {
-    let n = numerator(size, s, d);
-    let n_by = numerator(size, s_by, d_by);
+    let n = numerator(size, s.at, d.at);
+    let n_by = numerator(size, s.by, d.by);
     Carried {
-        rest: 4611686018427387903 - rise(n),
+        at: 4611686018427387903 - rise(n),
         up: fall(n_by),
         down: rise(n_by),
-        wide: 1099511627776 + 2 * rise(d),
-        wider: 2 * rise(d_by),
-        narrower: 2 * fall(d_by),
     }
 }
 
-// T + 32 of each column from its guess g: where g·2d lies within 2d of the numerator, that is g or g − 1. All are so where the bits that every upper end
-// has reach 2^62, and the bits that any lower end has do not. False where one is not; nothing is said of the table then.
+// 2^40 more than the denominator 2·d, from the first column on.
+fn width_from(d: Walk) -> Carried
+    requires { ⌜ Start (d .at) (d .by) ⌝ }
+    ensures { λ r. ⌜ Carries 4294967296 (widthAt d) r ⌝ }
+{
+    let first = d.at;
+    let by = d.by;
+    Carried {
+        at: 1099511627776 + 2 * rise(first),
+        up: 2 * rise(by),
+        down: 2 * fall(by),
+    }
+}
+
+// T + 32 of each column, and of its row: where a guess times 2d lies within 2d of the numerator, that is the guess or one less. All are so where the
+// bits that every upper end has reach 2^62, and the bits that any lower end has do not. False where one is not; nothing is said of the tables then.
+// g is the guess of a column and r what it leaves, h and q are those of its row.
 fn confirm(
     size: u64,
-    sum: Walk,
-    distance: Walk,
-    shift: u64,
+    s: Walk,
+    t: Walk,
+    d: Walk,
     from: u64,
     count: u64,
     guesses: &[u64; 512],
-    table: &mut [u32; 512],
+    columns: &mut [u32; 512],
+    rows: &mut [u32; 512],
 ) -> bool
-    requires { ⌜ Walks size sum distance count × (shift < 64) × (from + count ≤ 512) × (length (now table) ≡ 512) ⌝ }
-    ensures { λ r. ⌜ (r ≡ true → Plain size sum distance from count (now (table .exit))) × (length (now (table .exit)) ≡ 512) ⌝ }
+    requires { ⌜ Walks size s d count × Walks size t d count × (from + count ≤ 512) × (length (now columns) ≡ 512) × (length (now rows) ≡ 512) ⌝ }
+    ensures { λ r. ⌜ (r ≡ true → Plain size s d from count (now (columns .exit)) × Plain size t d from count (now (rows .exit)))
+        × (length (now (columns .exit)) ≡ 512) × (length (now (rows .exit)) ≡ 512) ⌝ }
 {
-    let s = sum.at;
-    let s_by = sum.by;
-    let d = distance.at;
-    let d_by = distance.by;
-    let c = carry_from(size, s, s_by, d, d_by);
-    let up = c.up;
-    let down = c.down;
-    let wider = c.wider;
-    let narrower = c.narrower;
-    let mut rest = c.rest;
-    let mut wide = c.wide;
+    let column = rest_from(size, s, d);
+    let row = rest_from(size, t, d);
+    let width = width_from(d);
+    let column_up = column.up;
+    let column_down = column.down;
+    let row_up = row.up;
+    let row_down = row.down;
+    let wider = width.up;
+    let narrower = width.down;
+    let mut column_rest = column.at;
+    let mut row_rest = row.at;
+    let mut wide = width.at;
     let mut low: u64 = 9223372036854775807;
     let mut high: u64 = 0;
     let mut i: u64 = 0;
     while i < count {
         let at = (from + i) as usize;
-        let g = (guesses[at] >> shift) % 65536;
+        let guess = guesses[at];
+        let g = (guess >> 15) % 65536;
+        let h = (guess >> 47) % 65536;
         let by = wide % 4294967296;
-        let r = g * by + rest;
-        low = low & (r + by);
-        high = high | (r - by);
-        table[at] = (g - (r >> 62)) as u32;
-        rest = rest + up - down;
+        let r = g * by + column_rest;
+        let q = h * by + row_rest;
+        low = low & ((r + by) & (q + by));
+        high = high | ((r - by) | (q - by));
+        columns[at] = (g - (r >> 62)) as u32;
+        rows[at] = (h - (q >> 62)) as u32;
+        column_rest = column_rest + column_up - column_down;
+        row_rest = row_rest + row_up - row_down;
         wide = wide + wider - narrower;
         i += 1;
     }
@@ -333,7 +350,5 @@ pub fn plain_along(
         × (length (now (guesses .exit)) ≡ 512) × (length (now (columns .exit)) ≡ 512) × (length (now (rows .exit)) ≡ 512) ⌝ }
 {
     guess_along(size, s, t, d, from, count, guesses);
-    let across = confirm(size, s, d, 15, from, count, guesses, columns);
-    let down = confirm(size, t, d, 47, from, count, guesses, rows);
-    across & down
+    confirm(size, s, t, d, from, count, guesses, columns, rows)
 }

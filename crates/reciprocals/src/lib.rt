@@ -2,7 +2,7 @@
 ghost use mathlib.Core.Path.{_≡_};
 ghost use mathlib.Core.Bool.{true};
 ghost use Prim.Native.Nat.{_+_, _*_, _^_, _≤_, _<_};
-ghost use lib.ListN.{length};
+ghost use lib.ListN.{length, getD};
 ghost use Rattle.reciprocals.specs.Reciprocals.{Distances, Reciprocals};
 
 // The scale of a stretch, 2^(31 + shift), and whether each guess was confirmed.
@@ -27,17 +27,22 @@ fn together(a: u64, b: u64) -> u64
 
 // ---- the scale
 
-// The place of a number's highest bit, at most 29.
+// The place of a number's highest bit, at most 29, by halving.
 fn highest_bit(number: u64) -> u64
     ensures { λ r. ⌜ r ≤ 29 ⌝ }
 {
     let mut x = number;
     let mut place: u64 = 0;
-    while (place < 29) & (1 < x) {
-        x = x / 2;
-        place += 1;
+    let mut half: u64 = 16;
+    while 0 < half {
+        let upper = x >> half;
+        if 0 < upper {
+            x = upper;
+            place += half;
+        }
+        half = half / 2;
     }
-    place
+    if place < 29 { place } else { 29 }
 }
 
 // A scale that suits both ends of a stretch.
@@ -61,6 +66,14 @@ fn dividend(shift: u64) -> u64
 
 // ---- guesses
 
+// The quotient at a column, in 32 bits.
+fn quotient(dividend: u64, distances: &[u32; 512], j: u64) -> u64
+    requires { ⌜ (j < 512) × (0 < getD (now distances) j 0) ⌝ }
+    ensures { λ r. ⌜ r < 4294967296 ⌝ }
+{
+    dividend / wide(distances[j as usize]) % 4294967296
+}
+
 // Guesses by division.
 fn divided(dividend: u64, distances: &[u32; 512], from: u64, to: u64, guesses: &mut [u32; 512])
     requires { ⌜ (to ≤ 512) × Distances (now distances) from to × (length (now guesses) ≡ 512) ⌝ }
@@ -68,7 +81,7 @@ fn divided(dividend: u64, distances: &[u32; 512], from: u64, to: u64, guesses: &
 {
     let mut j = from;
     while j < to {
-        guesses[j as usize] = (dividend / wide(distances[j as usize]) % 4294967296) as u32;
+        guesses[j as usize] = quotient(dividend, distances, j) as u32;
         j += 1;
     }
 }
@@ -96,26 +109,52 @@ fn apart(a: u64, b: u64) -> u64
     if a < b { b - a } else { a - b }
 }
 
-// Guesses by the chords between every eighth quotient; by division where the distances change much, and in what is left at the end.
+// Eight guesses from column j on: by the chord between the quotients at j and j + 8 where the distances change little, else by division.
+fn eight(
+    dividend: u64,
+    first: u64,
+    last: u64,
+    distances: &[u32; 512],
+    j: u64,
+    guesses: &mut [u32; 512],
+)
+    requires { ⌜ (first < 4294967296) × (last < 4294967296) × (j + 8 < 512) ⌝ }
+    requires { ⌜ Distances (now distances) j (j + 9) × (length (now guesses) ≡ 512) ⌝ }
+    ensures { λ _. ⌜ length (now (guesses .exit)) ≡ 512 ⌝ }
+{
+    let a = wide(distances[j as usize]);
+    let b = wide(distances[(j + 8) as usize]);
+    if 8 * apart(a, b) <= a {
+        chord(first, last, j, guesses);
+    } else {
+        divided(dividend, distances, j, j + 8, guesses);
+    }
+}
+
+// Guesses by the chords between every eighth quotient. The last chord ends at the last column, and overlaps the one before.
 fn chords(dividend: u64, distances: &[u32; 512], from: u64, to: u64, guesses: &mut [u32; 512])
     requires { ⌜ (from < to) × (to ≤ 512) × Distances (now distances) from to × (length (now guesses) ≡ 512) ⌝ }
     ensures { λ _. ⌜ length (now (guesses .exit)) ≡ 512 ⌝ }
 {
+    if to < from + 9 {
+        divided(dividend, distances, from, to, guesses);
+        return;
+    }
     let mut j = from;
-    let mut first = dividend / wide(distances[from as usize]) % 4294967296;
+    let mut first = quotient(dividend, distances, from);
     while j + 8 < to {
-        let a = wide(distances[j as usize]);
-        let b = wide(distances[(j + 8) as usize]);
-        let last = dividend / b % 4294967296;
-        if 8 * apart(a, b) <= a {
-            chord(first, last, j, guesses);
-        } else {
-            divided(dividend, distances, j, j + 8, guesses);
-        }
+        let last = quotient(dividend, distances, j + 8);
+        eight(dividend, first, last, distances, j, guesses);
         first = last;
         j += 8;
     }
-    divided(dividend, distances, j, to, guesses);
+    if j + 1 < to {
+        let tail = to - 9;
+        let near = quotient(dividend, distances, tail);
+        first = quotient(dividend, distances, to - 1);
+        eight(dividend, near, first, distances, tail, guesses);
+    }
+    guesses[(to - 1) as usize] = first as u32;
 }
 
 // ---- confirmation

@@ -20,7 +20,7 @@ use Rattle.cubemap.proofs.Rotations.{along}
 use Rattle.positions.specs.declared.Line.{Line}
 use Rattle.positions.specs.Lines.{lineAt, Even, Stretch, Positioned}
 use Rattle.positions.specs.Ratios.{Ratio}
-use Rattle.sampling.specs.Taps.{positionIn, OnFaces}
+use Rattle.cubic.specs.Stretches.{positionIn, OnFaces}
 use Rattle.stretches.specs.Numbers.{Evenly}
 use Rattle.resampling.specs.declared.Cube.{Cube}
 use Rattle.resampling.specs.Plane.{Spaced, Runs, OneFace}

@@ -16,16 +16,17 @@ use Rattle.cubemap.specs.Samplers.{sampleFrom}
 use Rattle.cubemap.specs.Checks.{depthOK, layoutOK, rotationInRange, rotationNonzero, rayInRange}
 use Rattle.cubemap.proofs.Rotations.{along}
 use Rattle.cubemap.proofs.RotatedRays.{RotatedRay}
-use Rattle.indices.specs.Steps.{SteppedPlane, sampleBy}
-use Rattle.sampling.specs.Taps.{IsWeights}
+use Rattle.indices.specs.Steps.{Shallow, SteppedPlane, sampleBy}
+use Rattle.taps.specs.Taps.{IsWeights}
 use Rattle.resampling.specs.declared.Conversion.{Conversion}
 use Rattle.resampling.specs.declared.Cube.{Cube}
 
 -- ---- what it is given
 
--- the source's plane with its steps, and the table of weights
+-- the source's plane with its steps, its samples within the greatest depth, and the table of weights
 pub record SourceReady (c : Conversion) (plane : List ℕ) (steps weights : List ℤ) : Type 0 where
   pub stepped : SteppedPlane (c .source .size) plane steps
+  pub shallow : Shallow (c .source .size) plane
   pub weighted : IsWeights weights
   pub depth-ok : T (depthOK (c .depth))
 

@@ -1,18 +1,16 @@
 -- A frame that has passed its checks is a plane that can be scored, and stays one where its steps are aligned with those of another.
 use mathlib.Core.List.{List}
-use Prim.Native.Nat.{ℕ, _^_, _<_}
-use native.Mathlib.Omega.{arith}
+use Prim.Native.Nat.{ℕ, _<_}
 use lib.Dec.{T}
 use lib.IntN.{ℤ}
 use lib.ListN.{length}
 use Rattle.cubemap.specs.declared.Shape.{Shape}
-use Rattle.cubemap.specs.Frames.{sampleAt}
 use Rattle.cubemap.specs.Checks.{sizeOK, depthOK, lengthOK, samplesOK}
-use Rattle.cubemap.proofs.Framed.{plane-bytes, samples-number, samples-below}
-use Rattle.cubemap.proofs.Passed.{size-range, depth-levels}
+use Rattle.cubemap.proofs.Framed.{plane-bytes}
+use Rattle.cubemap.proofs.Passed.{size-range}
 use Rattle.indices.specs.declared.FaceSteps.{FaceSteps}
 use Rattle.indices.specs.Steps.{stepsIn, LeadsTo, Aligned, sampleBySteps}
-use Rattle.indices.proofs.Stepping.{aligned-plane, face-of, stepped-plane}
+use Rattle.indices.proofs.Stepping.{aligned-plane, shallow-plane, face-of, stepped-plane}
 use Rattle.scoring.specs.Rows.{ScoredFace, ScoredPlane}
 
 module _ (z : Shape) (L bytes : List ℕ) (steps : List ℤ) where
@@ -21,11 +19,8 @@ module _ (z : Shape) (L bytes : List ℕ) (steps : List ℤ) where
   scored-plane size depth long samples leads = record {
     stepped = stepped-plane (z .size) L steps leads (size-range (z .size) size .at-least) (size-range (z .size) size .at-most)
         (plane-bytes z (length bytes) long);
-    shallow = record { within = λ i l. small (sampleAt bytes i) (samples-below z bytes samples i (omega (arith, samples-number z))) };
+    shallow = shallow-plane z bytes depth samples;
   }
-    where
-      small : (v : ℕ) → v < 2 ^ z .depth → v < 4096
-      small v h = omega (arith, depth-levels (z .depth) depth)
 
 pub scored-aligned : {A : ℕ} {plane : List ℕ} (guide table r : List ℤ) → Aligned guide table r → ScoredPlane A plane table → ScoredPlane A plane r
 scored-aligned guide table r e p = record { stepped = aligned-plane guide table r e (p .stepped); shallow = p .shallow }

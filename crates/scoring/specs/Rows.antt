@@ -10,15 +10,11 @@ use Rattle.cubemap.specs.declared.Format.{Format}
 use Rattle.cubemap.specs.Frames.{planeSamples, sampleAt}
 use Rattle.cubemap.specs.Score.{weight, squaredDifference}
 use Rattle.indices.specs.declared.FaceSteps.{FaceSteps}
-use Rattle.indices.specs.Steps.{stepsIn, SteppedFace, SteppedPlane, sampleBySteps}
+use Rattle.indices.specs.Steps.{stepsIn, Shallow, SteppedFace, SteppedPlane, sampleBySteps}
 
 -- the table has the weights of row n, for every format. Nothing is said of the entries from A on.
 pub record Weighed (A n : ℕ) (weights : List ℕ) : Type 0 where
   pub entry : (format : Format) (m : ℕ) → m < A → getD weights m 0 ≡ weight format A m n
-
--- each sample is within the greatest depth
-pub record Shallow (A : ℕ) (plane : List ℕ) : Type 0 where
-  pub within : (i : ℕ) → i < planeSamples A → sampleAt plane i < 4096
 
 -- a face of such a plane, and all six, with steps to their samples
 pub record ScoredFace (A : ℕ) (plane : List ℕ) (s : FaceSteps) : Type 0 where

@@ -68,6 +68,40 @@ fn walk_from(line: Line, a: i64) -> Walk
     }
 }
 
+// ---- by division
+
+// T + 32 of each column of a stretch, and of its row, by division.
+fn by_division(
+    format: Format,
+    size: u64,
+    across: Line,
+    down: Line,
+    distance: Line,
+    coordinates: &[i64; 512],
+    from: u64,
+    to: u64,
+    columns: &mut [u32; 512],
+    rows: &mut [u32; 512],
+)
+    requires { ⌜ Stretch size across distance (now coordinates) from to × Stretch size down distance (now coordinates) from to ⌝ }
+    requires { ⌜ (length (now columns) ≡ 512) × (length (now rows) ≡ 512) ⌝ }
+    ensures { λ _. ⌜ Positioned format size across distance (now (coordinates .entry)) from to (now (columns .exit))
+        × Positioned format size down distance (now (coordinates .entry)) from to (now (rows .exit))
+        × (length (now (columns .exit)) ≡ 512) × (length (now (rows .exit)) ≡ 512) ⌝ }
+{
+    positions::positions_by_division(
+        format,
+        size,
+        across,
+        distance,
+        coordinates,
+        from,
+        to,
+        columns,
+    );
+    positions::positions_by_division(format, size, down, distance, coordinates, from, to, rows);
+}
+
 // ---- CMP
 
 // T + 32 in CMP of each column of a stretch, and of its row; false where they are not evenly spaced, or few, or where a guess is not confirmed.
@@ -141,24 +175,16 @@ fn cmp_along(
     if told {
         return;
     }
-    positions::positions_by_division(
+    by_division(
         Format::Cmp,
         size,
         across,
-        distance,
-        coordinates,
-        from,
-        to,
-        columns,
-    );
-    positions::positions_by_division(
-        Format::Cmp,
-        size,
         down,
         distance,
         coordinates,
         from,
         to,
+        columns,
         rows,
     );
 }
@@ -299,7 +325,7 @@ fn acp_line(
     );
 }
 
-// T + 32 in ACP of each column of a stretch, and of its row: both by the reciprocals of its distances.
+// T + 32 in ACP of each column of a stretch, and of its row: both by the reciprocals of its distances, or by division where the columns are few.
 fn acp_along(
     size: u64,
     across: Line,
@@ -322,6 +348,21 @@ fn acp_along(
         × (length (now (distances .exit)) ≡ 512) × (length (now (reciprocals .exit)) ≡ 512) × (length (now (sums .exit)) ≡ 512)
         × (length (now (columns .exit)) ≡ 512) × (length (now (rows .exit)) ≡ 512) ⌝ }
 {
+    if to - from < 16 {
+        by_division(
+            Format::Acp,
+            size,
+            across,
+            down,
+            distance,
+            coordinates,
+            from,
+            to,
+            columns,
+            rows,
+        );
+        return;
+    }
     line_along(distance, coordinates, from, to, distances);
     let scale = reciprocals::reciprocals_along(distances, from, to, reciprocals);
     acp_line(

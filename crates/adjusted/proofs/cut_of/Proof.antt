@@ -19,8 +19,17 @@ abbrev μ-loop : tie.MeasureT-loop
 returns : tie.Need-returns Inv-loop μ-loop
 returns c = search needs
 
+returns-2 : tie.Need-returns-2 Inv-loop μ-loop
+returns-2 c = search needs
+
 negative-requires : tie.Need-negative-requires Inv-loop μ-loop
 negative-requires c κs = search needs
+
+sub-negative : tie.Need-sub-negative Inv-loop μ-loop
+sub-negative c = search needs
+
+negative-requires-2 : tie.Need-negative-requires-2 Inv-loop μ-loop
+negative-requires-2 c κs = search needs
 
 loop-holds : tie.Need-loop-holds Inv-loop μ-loop
 loop-holds c = record { begun = omega arith; order = search needs; bounded = omega arith }
@@ -31,8 +40,8 @@ add-loop c = search needs
 add-middle : tie.Need-add-middle Inv-loop μ-loop
 add-middle c = search needs
 
-negative-requires-2 : tie.Need-negative-requires-2 Inv-loop μ-loop
-negative-requires-2 c κs = search needs
+negative-requires-3 : tie.Need-negative-requires-3 Inv-loop μ-loop
+negative-requires-3 c κs = search needs
 
 loop-less : tie.Need-loop-less Inv-loop μ-loop
 loop-less c = omega arith
@@ -53,12 +62,15 @@ cut-of-spec =
     Inv-loop
     μ-loop
     negative-requires
+    sub-negative
+    negative-requires-2
+    returns
     loop-holds
     add-loop
     add-middle
-    negative-requires-2
+    negative-requires-3
     loop-less
     loop-again
     loop-less-2
     loop-again-2
-    returns)
+    returns-2)

@@ -1,156 +1,100 @@
--- `confirm` meets its contract: column by column, what is carried is that of the column, and each entry is tried.
-use mathlib.Core.Path.{_≡_, refl, sym, _∙_, ap, ap₂, subst, subst₂}
-use mathlib.Core.List.{List}
-use Prim.Native.Nat.{ℕ, _+_, _*_, _-_, _/_, _%_, _^_, _≤_, _<_}
+-- `confirm` meets its contract: column by column, what is carried is that of the column, and its entry in each of the two tables is tried.
+use Prim.Native.Nat.{ℕ, _+_, _-_, _/_, _%_, _^_}
+use native.Mathlib.Nat.{le-trans}
 use native.Mathlib.Omega.{arith}
-use lib.IntN.{ℤ, pos, natAbs}
 use lib.ListN.{getD}
 use lib.Dec.{leb, ltb, leb→le, ltb→lt}
-use lib.Bits.{and-le-l, and-le-r}
+use lib.Bits.{bitAnd, bitOr, and-le-l, and-le-r}
+use borrow.Author.Needs.{needs}
 use Rattle.arithmetic.proofs.Tests.{and-left, and-right, passes}
 use Rattle.arithmetic.proofs.Bits.{or-left, or-right}
 use Rattle.plain.specs.declared.Walk.{Walk}
 use Rattle.plain.specs.declared.Carried.{Carried}
-use Rattle.plain.specs.Walks.{sizeAt, Walks, Carries}
 use Rattle.plain.proofs.Confirming.{far, Left, left-small, left-least, correction}
-use Rattle.plain.proofs.Carrying.{top, Reached, by-is, left-at, rest-is, wide-is, rest-room, wide-room, Going, going-from, going-next}
-use Rattle.plain.proofs.Carrying.{read-walk, read-start, confirmed}
+use Rattle.plain.proofs.Carrying.{top, leftBy, Reached, Stands, left-at, rest-fits, rest-room, wide-fits, wide-room}
+use Rattle.plain.proofs.Carrying.{Going, going-from, going-next, confirmed}
 use Rattle.plain.proofs.confirm.Statement.{statement}
 use Rattle.plain.proofs.confirm.Tie as tie
 
-abbrev carriedFrom : ℕ → ℕ → ℕ → ℕ → ℕ → ℕ → Carried
-carriedFrom rest up down wide wider narrower = record { rest = rest; up = up; down = down; wide = wide; wider = wider; narrower = narrower }
+abbrev carried : ℕ → ℕ → ℕ → Carried
+carried at up down = record { at = at; up = up; down = down }
 
 abbrev Inv-loop : tie.InvT-loop
-Inv-loop size shift from count guesses table₀ s s-by d d-by up down wider narrower rest₀ wide₀ low₀ high₀ i₀ table rest wide low high i =
-    Going size from count (carriedFrom rest₀ up down wide₀ wider narrower) table rest wide low high i
+Inv-loop size from count _ _ _ column-up column-down row-up row-down wider narrower column-rest₀ row-rest₀ wide₀ _ _ _
+    columns rows column-rest row-rest wide low high i =
+    Going size from count (carried column-rest₀ column-up column-down) (carried wide₀ wider narrower) columns column-rest wide low high i
+    × Going size from count (carried row-rest₀ row-up row-down) (carried wide₀ wider narrower) rows row-rest wide low high i
 
 abbrev μ-loop : tie.MeasureT-loop
-μ-loop size shift from count guesses table₀ s s-by d d-by up down wider narrower rest₀ wide₀ low₀ high₀ i₀ table rest wide low high i = count - i
+μ-loop size from count _ _ _ column-up column-down row-up row-down wider narrower column-rest₀ row-rest₀ wide₀ _ _ _
+    columns rows column-rest row-rest wide low high i =
+    count - i
 
-carry-from-requires : tie.Need-carry-from-requires Inv-loop μ-loop
-carry-from-requires c κs =
-    let s : tie.Start Inv-loop μ-loop = c .before .before .before .before in
-    let w = s .pre .0 in
-    (w .size-most, read-start (s .args .sum) (w .sums .start), read-start (s .args .distance) (w .distances .start))
-
-module _ (c : tie.After-carry-from Inv-loop μ-loop) where
+module _ (c : tie.After-width-from Inv-loop μ-loop) where
   abbrev start : tie.Start Inv-loop μ-loop
-  start = c .before .before .before .before .before
+  start = c .before .before .before
 
-  walks : Walks (start .args .size) (start .args .sum) (start .args .distance) (start .args .count)
-  walks = start .pre .0
+  abbrev A : ℕ
+  A = start .args .size
 
-  carries : Carries (start .args .size) (start .args .sum) (start .args .distance) (c .carry-from .result)
-  carries = subst₂ (λ s d. Carries (start .args .size) s d (c .carry-from .result)) (read-walk (start .args .sum) (walks .sums .start))
-      (read-walk (start .args .distance) (walks .distances .start)) (c .carry-from .ensures)
+  abbrev s : Walk
+  s = start .args .s
 
-loop-holds : tie.Need-loop-holds Inv-loop μ-loop
-loop-holds c = going-from _ _ _ (c .carry-from .result) _ _ _ (start c .pre .3)
+  abbrev t : Walk
+  t = start .args .t
+
+  abbrev d : Walk
+  d = start .args .d
+
+  column-stands : Stands A s d (start .args .count) (c .before .before .rest-from .result) (c .width-from .result)
+  column-stands = record { walks = start .pre .0; rests = c .before .before .rest-from .ensures; widths = c .width-from .ensures }
+
+  row-stands : Stands A t d (start .args .count) (c .before .rest-from2 .result) (c .width-from .result)
+  row-stands = record { walks = start .pre .1; rests = c .before .rest-from2 .ensures; widths = c .width-from .ensures }
 
 module _ (c : tie.In-loop Inv-loop μ-loop) where
-  abbrev o : tie.After-carry-from Inv-loop μ-loop
+  abbrev o : tie.After-width-from Inv-loop μ-loop
   o = c .before .before
 
   abbrev v : tie.At-loop Inv-loop μ-loop
   v = c .before
 
+  abbrev from : ℕ
+  from = start o .args .from
+
   abbrev i : ℕ
   i = v .loop .i
 
-  abbrev A : ℕ
-  A = start o .args .size
+  column-reached : Reached (A o) (s o) (d o) from (v .loop .columns) (v .loop .column-rest) (v .loop .wide) (v .loop .low) (v .loop .high) i
+  column-reached = v .loop .inv .0 .done (s o) (d o) (column-stands o)
 
-  index-small : start o .args .from + i < 512
-  index-small = omega (arith, c .loop-test .taken, start o .pre .2)
+  row-reached : Reached (A o) (t o) (d o) from (v .loop .rows) (v .loop .row-rest) (v .loop .wide) (v .loop .low) (v .loop .high) i
+  row-reached = v .loop .inv .1 .done (t o) (d o) (row-stands o)
 
-  reached : Reached A (start o .args .sum) (start o .args .distance) (start o .args .from) (v .loop .table) (v .loop .rest) (v .loop .wide)
-      (v .loop .low) (v .loop .high) i
-  reached = v .loop .inv .done (start o .args .sum) (start o .args .distance) (walks o) (carries o)
-
-  -- the guess, and what it leaves
+  -- the guesses of the column and of its row, and what they leave
   abbrev guess : ℕ
-  guess = getD (start o .args .guesses .now) (start o .args .from + i) 0 / 2 ^ (start o .args .shift) % 65536
+  guess = getD (start o .args .guesses .now) (from + i) 0
+
+  abbrev g : ℕ
+  g = guess / 2 ^ 15 % 65536
+
+  abbrev h : ℕ
+  h = guess / 2 ^ 47 % 65536
 
   abbrev by : ℕ
   by = v .loop .wide % 4294967296
 
-  abbrev left : ℕ
-  left = guess * by + v .loop .rest
+  abbrev r : ℕ
+  r = leftBy (v .loop .wide) (v .loop .column-rest) g
 
-  by-at : by ≡ 2 * sizeAt (start o .args .distance) i
-  by-at = by-is (walks o) (c .loop-test .taken) reached
+  abbrev q : ℕ
+  q = leftBy (v .loop .wide) (v .loop .row-rest) h
 
-  leaves : Left (top A (start o .args .sum) (start o .args .distance) i) (2 * sizeAt (start o .args .distance) i) guess left
-  leaves = left-at (walks o) (c .loop-test .taken) reached guess by (omega arith) by-at
+  column-left : Left (top (A o) (s o) (d o) i) by g r
+  column-left = left-at (start o .pre .0) (c .loop-test .taken) column-reached g (omega arith)
 
-  by-small : by ≤ 4294967296
-  by-small = omega arith
-
-add-at : tie.Need-add-at Inv-loop μ-loop
-add-at c = record { fits = omega (arith, index-small c) }
-
-mul-g : tie.Need-mul-g Inv-loop μ-loop
-mul-g c = record { fits = omega (arith, index-small c) }
-
-element-copy-out-g : tie.Need-element-copy-out-g Inv-loop μ-loop
-element-copy-out-g c = index-small c
-
-shr-g : tie.Need-shr-g Inv-loop μ-loop
-shr-g c = start (o (c .before)) .pre .1
-
-mul-r : tie.Need-mul-r Inv-loop μ-loop
-mul-r c = record { fits = omega (arith, left-small (leaves (c .before))) }
-
-add-r : tie.Need-add-r Inv-loop μ-loop
-add-r c = record { fits = omega (arith, left-small (leaves (c .before))) }
-
-add-low : tie.Need-add-low Inv-loop μ-loop
-add-low c = record { fits = omega (arith, left-small (leaves (c .before)), by-small (c .before)) }
-
-sub-high : tie.Need-sub-high Inv-loop μ-loop
-sub-high c = omega (arith, left-least (leaves (c .before)), by-at (c .before))
-
-sub-table : tie.Need-sub-table Inv-loop μ-loop
-sub-table c = correction (leaves (c .before))
-
-cast-table : tie.Need-cast-table Inv-loop μ-loop
-cast-table c = record { fits = omega arith }
-
-mul-table : tie.Need-mul-table Inv-loop μ-loop
-mul-table c = record { fits = omega (arith, index-small (c .before)) }
-
-element-write-table : tie.Need-element-write-table Inv-loop μ-loop
-element-write-table c = index-small (c .before)
-
-add-rest : tie.Need-add-rest Inv-loop μ-loop
-add-rest c =
-    let l = c .before in
-    record { fits = omega (arith, rest-is (walks (o l)) (l .loop-test .taken) (reached l), carries (o l) .rest-few .0) }
-
-sub-rest : tie.Need-sub-rest Inv-loop μ-loop
-sub-rest c = let l = c .before in rest-room (walks (o l)) (carries (o l)) (reached l) (l .loop-test .taken)
-
-add-wide : tie.Need-add-wide Inv-loop μ-loop
-add-wide c =
-    let l = c .before in
-    record { fits = omega (arith, wide-is (walks (o l)) (l .loop-test .taken) (reached l), walks (o l) .bounded (i l) (l .loop-test .taken), carries (o l) .wide-few .0) }
-
-sub-wide : tie.Need-sub-wide Inv-loop μ-loop
-sub-wide c = let l = c .before in wide-room (walks (o l)) (carries (o l)) (reached l) (l .loop-test .taken)
-
-add-i : tie.Need-add-i Inv-loop μ-loop
-add-i c = record { fits = omega (arith, index-small (c .before)) }
-
-loop-less : tie.Need-loop-less Inv-loop μ-loop
-loop-less c = omega (arith, c .before .loop-test .taken)
-
-loop-again : tie.Need-loop-again Inv-loop μ-loop
-loop-again c =
-    let l = c .before in
-    going-next (guess l) (by l) (left l) (guess l - left l / far) _ _ (v l .loop .inv) (l .loop-test .taken) (start (o l) .pre .2) (omega arith) refl refl refl
-    (and-le-l (v l .loop .low) (left l + by l)) (and-le-r (v l .loop .low) (left l + by l))
-    (or-left (v l .loop .high) (left l - by l)) (or-right (v l .loop .high) (left l - by l))
+  row-left : Left (top (A o) (t o) (d o) i) by h q
+  row-left = left-at (start o .pre .1) (c .loop-test .taken) row-reached h (omega arith)
 
 returns : tie.Need-returns Inv-loop μ-loop
 returns c =
@@ -158,11 +102,125 @@ returns c =
     let o = c .before .before in (
       (λ t.
           let both = passes t in
-          confirmed (walks o) (l .inv .done _ _ (walks o) (carries o)) (omega (arith, c .loop-test .left))
-          (leb→le far (l .low) (and-left (leb far (l .low)) (ltb (l .high) far) both))
-          (ltb→lt (l .high) far (and-right (leb far (l .low)) (ltb (l .high) far) both))),
-      l .inv .whole,
+          let above = leb→le far (l .low) (and-left (leb far (l .low)) (ltb (l .high) far) both) in
+          let under = ltb→lt (l .high) far (and-right (leb far (l .low)) (ltb (l .high) far) both) in (
+            confirmed (start o .pre .0) (l .inv .0 .done _ _ (column-stands o)) (omega (arith, c .loop-test .left)) above under,
+            confirmed (start o .pre .1) (l .inv .1 .done _ _ (row-stands o)) (omega (arith, c .loop-test .left)) above under,
+          )),
+      l .inv .0 .whole,
+      l .inv .1 .whole,
     )
+
+loop-again : tie.Need-loop-again Inv-loop μ-loop
+loop-again c =
+    let l = c .before in
+    let low = v l .loop .low in
+    let high = v l .loop .high in
+    let above = bitAnd (r l + by l) (q l + by l) in
+    let under = bitOr (r l - by l) (q l - by l) in (
+      going-next (g l) _ _ (v l .loop .inv .0) (l .loop-test .taken) (start (o l) .pre .2) (omega arith)
+          (and-le-l low above) (le-trans (and-le-r low above) (and-le-l (r l + by l) (q l + by l)))
+          (or-left high under) (le-trans (or-left (r l - by l) (q l - by l)) (or-right high under)),
+      going-next (h l) _ _ (v l .loop .inv .1) (l .loop-test .taken) (start (o l) .pre .2) (omega arith)
+          (and-le-l low above) (le-trans (and-le-r low above) (and-le-r (r l + by l) (q l + by l)))
+          (or-left high under) (le-trans (or-right (r l - by l) (q l - by l)) (or-right high under)),
+    )
+
+loop-less : tie.Need-loop-less Inv-loop μ-loop
+loop-less c = omega (arith, c .before .loop-test .taken)
+
+rest-from-requires : tie.Need-rest-from-requires Inv-loop μ-loop
+rest-from-requires c κs = search needs
+
+rest-from-requires-2 : tie.Need-rest-from-requires-2 Inv-loop μ-loop
+rest-from-requires-2 c κs = search needs
+
+width-from-requires : tie.Need-width-from-requires Inv-loop μ-loop
+width-from-requires c κs = search needs
+
+loop-holds : tie.Need-loop-holds Inv-loop μ-loop
+loop-holds c = (
+  going-from _ _ _ (c .before .before .rest-from .result) (c .width-from .result) _ _ _ (start c .pre .3),
+  going-from _ _ _ (c .before .rest-from2 .result) (c .width-from .result) _ _ _ (start c .pre .4),
+)
+
+add-at : tie.Need-add-at Inv-loop μ-loop
+add-at c = search needs
+
+mul-guess : tie.Need-mul-guess Inv-loop μ-loop
+mul-guess c = search needs
+
+element-copy-out-guess : tie.Need-element-copy-out-guess Inv-loop μ-loop
+element-copy-out-guess c = search needs
+
+mul-r : tie.Need-mul-r Inv-loop μ-loop
+mul-r c = record { fits = omega (arith, left-small (column-left (c .before))) }
+
+add-r : tie.Need-add-r Inv-loop μ-loop
+add-r c = record { fits = omega (arith, left-small (column-left (c .before))) }
+
+mul-q : tie.Need-mul-q Inv-loop μ-loop
+mul-q c = record { fits = omega (arith, left-small (row-left (c .before))) }
+
+add-q : tie.Need-add-q Inv-loop μ-loop
+add-q c = record { fits = omega (arith, left-small (row-left (c .before))) }
+
+add-low : tie.Need-add-low Inv-loop μ-loop
+add-low c = record { fits = omega (arith, left-small (column-left (c .before))) }
+
+add-low-2 : tie.Need-add-low-2 Inv-loop μ-loop
+add-low-2 c = record { fits = omega (arith, left-small (row-left (c .before))) }
+
+sub-high : tie.Need-sub-high Inv-loop μ-loop
+sub-high c = left-least (column-left (c .before))
+
+sub-high-2 : tie.Need-sub-high-2 Inv-loop μ-loop
+sub-high-2 c = left-least (row-left (c .before))
+
+sub-columns : tie.Need-sub-columns Inv-loop μ-loop
+sub-columns c = correction (column-left (c .before))
+
+cast-columns : tie.Need-cast-columns Inv-loop μ-loop
+cast-columns c = search needs
+
+mul-columns : tie.Need-mul-columns Inv-loop μ-loop
+mul-columns c = search needs
+
+element-write-columns : tie.Need-element-write-columns Inv-loop μ-loop
+element-write-columns c = search needs
+
+sub-rows : tie.Need-sub-rows Inv-loop μ-loop
+sub-rows c = correction (row-left (c .before))
+
+cast-rows : tie.Need-cast-rows Inv-loop μ-loop
+cast-rows c = search needs
+
+mul-rows : tie.Need-mul-rows Inv-loop μ-loop
+mul-rows c = search needs
+
+element-write-rows : tie.Need-element-write-rows Inv-loop μ-loop
+element-write-rows c = search needs
+
+add-column-rest : tie.Need-add-column-rest Inv-loop μ-loop
+add-column-rest c = let l = c .before in record { fits = rest-fits (column-stands (o l)) (column-reached l) (l .loop-test .taken) }
+
+sub-column-rest : tie.Need-sub-column-rest Inv-loop μ-loop
+sub-column-rest c = let l = c .before in rest-room (column-stands (o l)) (column-reached l) (l .loop-test .taken)
+
+add-row-rest : tie.Need-add-row-rest Inv-loop μ-loop
+add-row-rest c = let l = c .before in record { fits = rest-fits (row-stands (o l)) (row-reached l) (l .loop-test .taken) }
+
+sub-row-rest : tie.Need-sub-row-rest Inv-loop μ-loop
+sub-row-rest c = let l = c .before in rest-room (row-stands (o l)) (row-reached l) (l .loop-test .taken)
+
+add-wide : tie.Need-add-wide Inv-loop μ-loop
+add-wide c = let l = c .before in record { fits = wide-fits (column-stands (o l)) (column-reached l) (l .loop-test .taken) }
+
+sub-wide : tie.Need-sub-wide Inv-loop μ-loop
+sub-wide c = let l = c .before in wide-room (column-stands (o l)) (column-reached l) (l .loop-test .taken)
+
+add-i : tie.Need-add-i Inv-loop μ-loop
+add-i c = search needs
 
 pub confirm-spec : {M : Type 1} → statement M
 confirm-spec =
@@ -170,22 +228,33 @@ confirm-spec =
     (tie.spec
     Inv-loop
     μ-loop
-    carry-from-requires
+    rest-from-requires
+    rest-from-requires-2
+    width-from-requires
     loop-holds
     add-at
-    mul-g
-    element-copy-out-g
-    shr-g
+    mul-guess
+    element-copy-out-guess
     mul-r
     add-r
+    mul-q
+    add-q
     add-low
+    add-low-2
     sub-high
-    sub-table
-    cast-table
-    mul-table
-    element-write-table
-    add-rest
-    sub-rest
+    sub-high-2
+    sub-columns
+    cast-columns
+    mul-columns
+    element-write-columns
+    sub-rows
+    cast-rows
+    mul-rows
+    element-write-rows
+    add-column-rest
+    sub-column-rest
+    add-row-rest
+    sub-row-rest
     add-wide
     sub-wide
     add-i

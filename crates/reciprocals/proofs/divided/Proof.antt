@@ -1,7 +1,7 @@
 -- `divided` meets its contract: no distance of the stretch is 0, and the table keeps its length.
-use mathlib.Core.Path.{_≡_, sym, subst}
+use mathlib.Core.Path.{_≡_}
 use mathlib.Core.List.{List}
-use Prim.Native.Nat.{ℕ, _-_, _≤_, _<_}
+use Prim.Native.Nat.{ℕ, _-_, _≤_}
 use lib.ListN.{length}
 use borrow.Author.Needs.{needs}
 use Rattle.reciprocals.proofs.divided.Statement.{statement}
@@ -20,20 +20,9 @@ abbrev μ-loop : tie.MeasureT-loop
 loop-holds : tie.Need-loop-holds Inv-loop μ-loop
 loop-holds c = search needs
 
-mul-wide : tie.Need-mul-wide Inv-loop μ-loop
-mul-wide c = search needs
-
-element-copy-out-wide : tie.Need-element-copy-out-wide Inv-loop μ-loop
-element-copy-out-wide c = search needs
-
-wide-requires : tie.Need-wide-requires Inv-loop μ-loop
-wide-requires c κs = search needs
-
-div-guesses : tie.Need-div-guesses Inv-loop μ-loop
-div-guesses c =
-    let l : tie.In-loop Inv-loop μ-loop = c .before .before in
-    subst (λ d. 0 < d) (sym (c .wide .ensures .0))
-    (l .before .before .pre .1 .positive (l .before .loop .j) (l .before .loop .inv .begun) (l .loop-test .taken))
+quotient-requires : tie.Need-quotient-requires Inv-loop μ-loop
+quotient-requires c κs =
+    (search needs, c .before .before .pre .1 .positive (c .before .loop .j) (c .before .loop .inv .begun) (c .loop-test .taken))
 
 cast-guesses : tie.Need-cast-guesses Inv-loop μ-loop
 cast-guesses c = search needs
@@ -63,10 +52,7 @@ divided-spec =
     Inv-loop
     μ-loop
     loop-holds
-    mul-wide
-    element-copy-out-wide
-    wide-requires
-    div-guesses
+    quotient-requires
     cast-guesses
     mul-guesses
     element-write-guesses

@@ -121,7 +121,7 @@ sample-along-requires c κs =
     let room = b .1 .1 in
     let e = p .positions-along .ensures in
     let f = found-of (t p) (e .0, e .1) in (
-      (b .0 .0 .stepped, b .0 .0 .weighted, b .0 .0 .depth-ok, one .1),
+      (b .0 .0 .stepped, b .0 .0 .shallow, b .0 .0 .weighted, b .0 .0 .depth-ok, one .1),
       (
         on-faces (A (t p)) (A-most (t p)) (b .0 .1) (one .0) (order (t p)) (one .3) (one .4) (f .0) (f .1),
         (order (t p), omega (arith, one .0, one .3), room .0, omega (arith, room .1, one .3), e .5),

@@ -5,7 +5,8 @@ use native.Mathlib.Omega.{arith}
 use borrow.Author.Needs.{needs}
 use Rattle.cubemap.specs.Frames.{sampleAt}
 use Rattle.frame.proofs.Placing.{placed-cong}
-use Rattle.sampling.specs.Taps.{nearestOn, positionIn}
+use Rattle.cubic.specs.Stretches.{positionIn}
+use Rattle.sampling.specs.Nearest.{nearestOn}
 use Rattle.sampling.proofs.Stretches.{in-plane}
 use Rattle.sampling.proofs.nearest_along.Statement.{statement}
 use Rattle.sampling.proofs.nearest_along.Tie as tie
@@ -17,7 +18,7 @@ returns c =
       c .before .before .samples-along .ensures
           ∙ placed-cong (a .target .now) (a .at + a .from) _
           (λ j. nearestOn (a .plane .now) (a .steps) (a .size) (positionIn (a .columns .now) (a .from + j)) (positionIn (a .rows .now) (a .from + j)))
-          (a .to - a .from) (λ j l. ap (sampleAt (a .plane .now)) (i .nearest-indices .ensures .index-is (a .from + j) (omega arith) (omega arith))),
+          (a .to - a .from) (λ j l. ap (sampleAt (a .plane .now)) (i .nearest-indices .ensures .entry-is (a .from + j) (omega arith) (omega arith))),
       i .nearest-indices .ensures .whole,
     )
 
@@ -28,7 +29,7 @@ samples-along-requires : tie.Need-samples-along-requires
 samples-along-requires c κs =
     let i : tie.After-nearest-indices = c .before .before in
     let p = i .before .before .before .before .pre in
-    (in-plane (p .0 .0) (p .0 .1) (p .0 .2) (i .nearest-indices .ensures), (p .1 .0, p .1 .1, p .1 .2, p .1 .3))
+    (in-plane (p .0 .0) (p .0 .2) (p .0 .3) (i .nearest-indices .ensures), (p .1 .0, p .1 .1, p .1 .2, p .1 .3))
 
 same-length : tie.Need-same-length
 same-length c = search needs

@@ -1,12 +1,13 @@
 -- `nearest_indices` meets its contract: after each position the indices up to it are written.
 use Prim.Native.Nat.{_-_}
 use native.Mathlib.Omega.{arith}
-use Rattle.sampling.proofs.Stretches.{Indexed, indexed-next}
+use Rattle.cubic.proofs.Stretches.{Filling, filled-next}
+use Rattle.sampling.specs.Nearest.{nearestIndex}
 use Rattle.sampling.proofs.nearest_indices.Statement.{statement}
 use Rattle.sampling.proofs.nearest_indices.Tie as tie
 
 abbrev Inv-loop : tie.InvT-loop
-Inv-loop size steps columns rows from to indices₀ j₀ indices j = Indexed size steps columns rows from to j indices
+Inv-loop size steps columns rows from to indices₀ j₀ indices j = Filling (nearestIndex size steps) columns rows from to j indices
 
 abbrev μ-loop : tie.MeasureT-loop
 μ-loop size steps columns rows from to indices₀ j₀ indices j = to - j
@@ -14,18 +15,18 @@ abbrev μ-loop : tie.MeasureT-loop
 returns : tie.Need-returns Inv-loop μ-loop
 returns c =
     let w = c .before .loop .inv .done in
-    record { whole = w .whole; index-is = λ j l k. w .index-is j l (omega arith) }
+    record { whole = w .whole; entry-is = λ j l k. w .entry-is j l (omega arith) }
 
 loop-again : tie.Need-loop-again Inv-loop μ-loop
 loop-again c =
     let l = c .before .before .before .before in
     let s = l .before in
-    indexed-next (l .loop .inv) (omega arith) (omega arith) (c .nearest-index .ensures)
+    filled-next (l .loop .inv) (omega arith) (omega arith) (c .nearest-index .ensures)
 
 loop-holds : tie.Need-loop-holds Inv-loop μ-loop
 loop-holds c =
     let p = c .pre .1 in
-    record { from-on = omega arith; bounded = omega arith; done = record { whole = p .2; index-is = λ i l k. absurd (omega arith) } }
+    record { from-on = omega arith; bounded = omega arith; done = record { whole = p .2; entry-is = λ i l k. absurd (omega arith) } }
 
 mul-nearest-index : tie.Need-mul-nearest-index Inv-loop μ-loop
 mul-nearest-index c = omega arith
@@ -43,9 +44,9 @@ nearest-index-requires : tie.Need-nearest-index-requires Inv-loop μ-loop
 nearest-index-requires c κs =
     let l = c .before .before .before in
     let p = l .before .pre .0 in
-    let column = p .3 .column-ok (l .loop .j) (l .loop .inv .from-on) (omega arith) in
-    let row = p .3 .row-ok (l .loop .j) (l .loop .inv .from-on) (omega arith) in
-    (p .0, p .1, p .2, omega arith, omega arith)
+    let column = p .4 .column-ok (l .loop .j) (l .loop .inv .from-on) (omega arith) in
+    let row = p .4 .row-ok (l .loop .j) (l .loop .inv .from-on) (omega arith) in
+    (p .0, p .1, p .2, p .3, omega arith, omega arith)
 
 mul-indices : tie.Need-mul-indices Inv-loop μ-loop
 mul-indices c = omega arith

@@ -1,18 +1,17 @@
--- `sample_along` meets its contract, sampler by sampler: the steps are those of the face in the table.
+-- `sample_along` meets its contract: the steps are those of the face in the table, or those with columns and rows exchanged, which read the same.
 use mathlib.Core.Path.{_≡_, sym, _∙_, ap, subst}
-use mathlib.Core.List.{List}
 use Prim.Native.Nat.{ℕ, _+_, _-_}
-use lib.IntN.{ℤ}
+use lib.IntN.{ℤ, natAbs}
 use borrow.Author.Needs.{needs}
-use Rattle.cubemap.specs.declared.Sampler.{Sampler}
+use Rattle.arithmetic.proofs.Held.{held}
 use Rattle.cubemap.specs.RayToPlace.{located}
 use Rattle.cubemap.specs.Samplers.{sampleFrom}
-use Rattle.frame.specs.Placing.{placed}
 use Rattle.frame.proofs.Placing.{placed-cong}
-use Rattle.indices.specs.Steps.{SteppedFace, sampleBy}
-use Rattle.indices.proofs.Stepping.{face-of}
-use Rattle.sampling.specs.Taps.{positionIn, nearestOn, cubicOn}
-use Rattle.sampling.proofs.Stretches.{nearest-on, cubic-on}
+use Rattle.indices.specs.declared.FaceSteps.{FaceSteps}
+use Rattle.indices.specs.Steps.{Lined, SteppedFace, sampleBy}
+use Rattle.indices.proofs.Stepping.{face-of, exchanged-face}
+use Rattle.cubic.specs.Stretches.{positionIn, sampledOn}
+use Rattle.sampling.proofs.Stretches.{sampled-exchanged, sampled-on}
 use Rattle.sampling.proofs.sample_along.Statement.{statement}
 use Rattle.sampling.proofs.sample_along.Tie as tie
 
@@ -20,9 +19,14 @@ module _ (c : tie.After-steps-at) where
   abbrev start : tie.Start
   start = c .before .before .before
 
-  on : SteppedFace (start .args .size) (start .args .plane .now) (c .steps-at .result)
-  on = subst (SteppedFace (start .args .size) (start .args .plane .now)) (sym (c .steps-at .ensures))
-      (face-of (start .pre .0 .0) (start .args .face) (start .pre .0 .3))
+  abbrev on : FaceSteps
+  on = c .steps-at .result
+
+  abbrev Stepped : FaceSteps → Type 0
+  Stepped s = SteppedFace (start .args .size) (start .args .plane .now) s
+
+  stepped : Stepped on
+  stepped = subst Stepped (sym (c .steps-at .ensures)) (face-of (start .pre .0 .0) (start .args .face) (start .pre .0 .4))
 
   -- position number j of the stretch
   abbrev column : ℕ → ℤ
@@ -31,60 +35,75 @@ module _ (c : tie.After-steps-at) where
   abbrev row : ℕ → ℤ
   row j = positionIn (start .args .rows .now) (start .args .from + j)
 
-  -- what is to be stored, and that it is stored by functions that give the same
-  abbrev value : Sampler → ℕ → ℕ
-  value k j =
-      sampleFrom k (start .args .size) (start .args .depth) (sampleBy (start .args .plane .now) (start .args .steps .now))
+  -- the value to be stored there, and that by the steps of the face
+  abbrev value : ℕ → ℕ
+  value j = sampleFrom (start .args .sampler) (start .args .size) (start .args .depth) (sampleBy (start .args .plane .now) (start .args .steps .now))
       (located (start .args .face) (column j) (row j))
 
-  stored : (k : Sampler) (g : ℕ → ℕ) {r : List ℕ} → ((j : ℕ) → g j ≡ value k j) → start .args .sampler ≡ k
-      → r ≡ placed (start .args .target .now) (start .args .at + start .args .from) g (start .args .to - start .args .from)
-      → r ≡ placed (start .args .target .now) (start .args .at + start .args .from) (value (start .args .sampler))
-      (start .args .to - start .args .from)
-  stored k g h e p = p ∙ placed-cong (start .args .target .now) (start .args .at + start .args .from) g (value (start .args .sampler))
-      (start .args .to - start .args .from) (λ j l. h j ∙ ap (λ k. value k j) (sym e))
+  abbrev valueBy : FaceSteps → ℤ → ℤ → ℕ
+  valueBy s x y = sampledOn (start .args .sampler) (start .args .plane .now) s (start .args .size) (start .args .depth) x y
+
+  by-face : (j : ℕ) → valueBy on (column j) (row j) ≡ value j
+  by-face j = sampled-on (start .args .sampler) (start .args .size) (start .args .depth) (start .args .face) (start .args .plane .now)
+      (start .args .steps .now) on (c .steps-at .ensures) (column j) (row j)
+
+-- the step across, as it is read
+across-is : (c : tie.After-magnitude) → let t : tie.After-steps-at = c .before .before in c .magnitude .result ≡ natAbs (on t .across)
+across-is c =
+    let t : tie.After-steps-at = c .before .before in
+    c .magnitude .ensures ∙ ap natAbs (held (on t .across) (stepped t .leads .across-small) tt .is)
 
 returns : tie.Need-returns
 returns c =
-    let n : tie.After-nearest-along = c .before .before in
-    let t : tie.After-steps-at = n .before .before .before .before .before in
+    let l : tie.After-sample-lined = c .before .before in
+    let t : tie.After-steps-at = l .before .before .before .before .before .before in
     let a = start t .args in (
-      stored t Sampler.Nearest (λ j. nearestOn (a .plane .now) (t .steps-at .result) (a .size) (column t j) (row t j))
-          (λ j. nearest-on (a .size) (a .depth) (a .face) (a .plane .now) (a .steps .now) (t .steps-at .result) (t .steps-at .ensures) (column t j) (row t j))
-          (n .before .before .before .enum-told .given .1) (n .nearest-along .ensures .0),
-      n .nearest-along .ensures .1,
+      l .sample-lined .ensures .0 ∙ placed-cong (a .target .now) (a .at + a .from) _ (value t) (a .to - a .from) (λ j h. by-face t j),
+      l .sample-lined .ensures .1,
     )
 
 returns-2 : tie.Need-returns-2
 returns-2 c =
-    let t : tie.After-steps-at = c .before .before .before .before .before .before in
+    let l : tie.After-sample-lined2 = c .before .before in
+    let e : tie.After-exchanged = l .before .before .before in
+    let t : tie.After-steps-at = e .before .before .before .before in
     let a = start t .args in (
-      stored t Sampler.Cubic (λ j. cubicOn (a .plane .now) (t .steps-at .result) (a .size) (a .depth) (column t j) (row t j))
-          (λ j. cubic-on (a .size) (a .depth) (a .face) (a .plane .now) (a .steps .now) (t .steps-at .result) (t .steps-at .ensures) (column t j) (row t j))
-          (c .before .before .before .before .enum-told2 .given .1) (c .before .before .cubic-along .ensures),
-      start t .pre .1 .1 .4,
+      l .sample-lined2 .ensures .0
+          ∙ placed-cong (a .target .now) (a .at + a .from) _ (value t) (a .to - a .from) (λ j h.
+          ap (λ s. valueBy t s (row t j) (column t j)) (e .exchanged .ensures)
+          ∙ sampled-exchanged (a .sampler) (a .size) (a .depth) (a .plane .now) (on t) (column t j) (row t j)
+          ∙ by-face t j),
+      l .sample-lined2 .ensures .1,
     )
 
 steps-at-requires : tie.Need-steps-at-requires
 steps-at-requires c κs = search needs
 
-enum-told : tie.Need-enum-told
-enum-told c = search needs
+magnitude-requires : tie.Need-magnitude-requires
+magnitude-requires c κs = search needs
 
-nearest-along-requires : tie.Need-nearest-along-requires
-nearest-along-requires c κs =
-    let t : tie.After-steps-at = c .before .before .before .before in
+sample-lined-requires : tie.Need-sample-lined-requires
+sample-lined-requires c κs =
+    let m : tie.After-magnitude = c .before .before .before in
+    let t : tie.After-steps-at = m .before .before in
     let p = start t .pre in
-    ((on t, p .0 .0 .size-least, p .1 .0), p .1 .1)
+    ((stepped t, sym (across-is m) ∙ c .before .before .if1 .taken, p .0 .1, p .0 .2, p .0 .3), ((p .0 .0 .size-least, p .1 .0), p .1 .1))
 
-enum-told-2 : tie.Need-enum-told-2
-enum-told-2 c = search needs
+exchanged-requires : tie.Need-exchanged-requires
+exchanged-requires c κs = search needs
 
-cubic-along-requires : tie.Need-cubic-along-requires
-cubic-along-requires c κs =
-    let t : tie.After-steps-at = c .before .before .before in
+sample-lined-requires-2 : tie.Need-sample-lined-requires-2
+sample-lined-requires-2 c κs =
+    let e : tie.After-exchanged = c .before .before in
+    let m : tie.After-magnitude = e .before .before in
+    let t : tie.After-steps-at = m .before .before in
     let p = start t .pre in
-    ((on t, p .0 .0 .size-least, p .1 .0), ((p .0 .1, p .0 .2), (p .1 .1 .0, p .1 .1 .1, p .1 .1 .2, p .1 .1 .3)))
+    let o = p .1 .0 in
+    let is = sym (e .exchanged .ensures) in
+    let down = stepped t .leads .lined (λ h. e .before .if1 .left (across-is m ∙ h)) in (
+      (subst (Stepped t) is (exchanged-face (stepped t)), subst Lined is down, p .0 .1, p .0 .2, p .0 .3),
+      ((p .0 .0 .size-least, record { column-ok = o .row-ok; row-ok = o .column-ok }), p .1 .1),
+    )
 
 same-length : tie.Need-same-length
 same-length c = search needs
@@ -97,10 +116,10 @@ sample-along-spec =
     tie.close
     (tie.spec
     steps-at-requires
-    enum-told
-    nearest-along-requires
-    enum-told-2
-    cubic-along-requires
+    magnitude-requires
+    sample-lined-requires
+    exchanged-requires
+    sample-lined-requires-2
     same-length
     returns
     same-length-2

@@ -12,21 +12,11 @@ returns c =
     let f = g .0 (c .if1 .taken) in
     (f .0, f .1, g .1, g .2, g .3)
 
-positions-by-division-requires : tie.Need-positions-by-division-requires
-positions-by-division-requires c κs = search needs
-
-positions-by-division-requires-2 : tie.Need-positions-by-division-requires-2
-positions-by-division-requires-2 c κs = search needs
+by-division-requires : tie.Need-by-division-requires
+by-division-requires c κs = search needs
 
 returns-2 : tie.Need-returns-2
 returns-2 c = search needs
 
 pub cmp-along-spec : {M : Type 1} → statement M
-cmp-along-spec =
-    tie.close
-    (tie.spec
-    plain-stretch-requires
-    returns
-    positions-by-division-requires
-    positions-by-division-requires-2
-    returns-2)
+cmp-along-spec = tie.close (tie.spec plain-stretch-requires returns by-division-requires returns-2)

@@ -1,0 +1,4 @@
+pub mod Stretches
+mod Values
+mod Rows
+mod Lines

@@ -1,0 +1,156 @@
+-- Sixteen taps of a face whose rows run along the lines of the frame: four lie side by side, from the first on or from the last on.
+use mathlib.Core.Path.{_≡_, refl, sym, _∙_, ap, subst}
+use mathlib.Core.Bool.{Bool, true, false, _&&_, cond}
+use mathlib.Core.List.{List, [], _∷_}
+use Prim.Native.Nat.{ℕ, _+_, _*_, _-_, _<_}
+use native.Mathlib.Omega.{arith}
+use lib.Dec.{T}
+use lib.IntN.{ℤ, pos, negsuc, negℤ, natAbs, _+ℤ_, _*ℤ_}
+use lib.Signed.{nonNeg}
+use mir.Syntax.{w64}
+use mir.Val.{ofZ}
+use Rattle.arithmetic.specs.Integers.{natural, equalℤ}
+use Rattle.arithmetic.proofs.Sizes.{pos-inj, equalℤ→eq}
+use Rattle.arithmetic.proofs.Tests.{passes, fails, cond-both}
+use Rattle.arithmetic.proofs.Ring.{var, con, _⊕_, _⊗_, ⊖, solve}
+use Rattle.cubemap.specs.Frames.{sampleAt, planeSamples}
+use Rattle.indices.specs.declared.FaceSteps.{FaceSteps}
+use Rattle.indices.specs.Steps.{stepped, Lined, Shallow, SteppedFace, sampleBySteps}
+use Rattle.indices.proofs.Stepping.{not-negative, steps-unbroken, step-ahead, step-back}
+use Rattle.taps.specs.declared.Weights.{Weights}
+use Rattle.taps.specs.Taps.{reversed, gridSum}
+use Rattle.taps.proofs.Sums.{grid-cong, grid-reversed}
+use Rattle.cubic.specs.Lines.{ahead, firstOf, inFace, firstTap, firstIndex, RowsIn}
+use Rattle.cubic.proofs.Values.{Inside, inside}
+
+-- ---- ahead, or back
+
+is-ahead : (z : ℤ) → equalℤ z (pos 1) ≡ true → z ≡ pos 1
+is-ahead z e = equalℤ→eq z (pos 1) (passes e)
+
+is-back : (z : ℤ) → natAbs z ≡ 1 → equalℤ z (pos 1) ≡ false → z ≡ negℤ (pos 1)
+is-back (pos n) l e = absurd (fails e (subst (λ n. T (equalℤ (pos n) (pos 1))) (sym l) tt))
+is-back (negsuc n) l e = let d : n ≡ 0 = omega (arith, l) in ap negsuc d
+
+-- the first of four columns inside a face
+pub first-inside : (s : FaceSteps) (m : ℕ) {A : ℕ} → m + 3 < A → firstOf s m < A
+first-inside s m {A} h = cond-both (λ c. c < A) (ahead s) m (m + 3) (λ t. omega arith) (λ t. h)
+
+-- sixteen taps from an index on are inside the face
+pub record Begins (A : ℕ) (s : FaceSteps) (x y : ℤ) (first : ℕ) : Type 0 where
+  pub across : Inside A x
+  pub down : Inside A y
+  pub is : first ≡ natural (stepped s (firstOf s (natural x)) (natural y))
+
+pub begins : (A : ℕ) (s : FaceSteps) (x y first : ℕ) → first ≡ firstIndex A s x y → (first ≡ 4294967295 → ⊥) → Begins A s (firstTap x) (firstTap y) first
+begins A s x y first e h = go (inFace A (firstTap x)) (inFace A (firstTap y)) refl refl e
+  where
+    go : (a b : Bool) → inFace A (firstTap x) ≡ a → inFace A (firstTap y) ≡ b
+        → first ≡ cond (a && b) (natural (stepped s (firstOf s (natural (firstTap x))) (natural (firstTap y)))) 4294967295
+        → Begins A s (firstTap x) (firstTap y) first
+    go true true p q e = record { across = inside A (firstTap x) (passes p); down = inside A (firstTap y) (passes q); is = e }
+    go true false p q e = absurd (h e)
+    go false b p q e = absurd (h e)
+
+-- what the machine reads of a step across
+pub reads-ahead : (s : FaceSteps) → Lined s → ofZ w64 (s .across) ≡ 1 → T (ahead s)
+reads-ahead s l e = subst (λ z. T (equalℤ z (pos 1))) (sym (step-ahead s l e)) tt
+
+pub reads-back : (s : FaceSteps) → Lined s → (ofZ w64 (s .across) ≡ 1 → ⊥) → T (ahead s) → ⊥
+reads-back s l f t = subst (λ z. T (equalℤ z (pos 1))) (step-back s l f) t
+
+-- rows further down
+stepped-down : (s : FaceSteps) (m n j : ℕ) → stepped s m (n + j) ≡ stepped s m n +ℤ pos j *ℤ s .down
+stepped-down s m n j =
+    solve ((s .base +ℤ pos m *ℤ s .across) ∷ pos n ∷ pos j ∷ s .down ∷ [])
+    (var 0 ⊕ (var 1 ⊕ var 2) ⊗ var 3) (var 0 ⊕ var 1 ⊗ var 3 ⊕ var 2 ⊗ var 3) tt
+
+module _ {A : ℕ} {plane : List ℕ} {s : FaceSteps} (p : SteppedFace A plane s) (b : Shallow A plane) (m n : ℕ) (h : m + 3 < A) (k : n + 3 < A) where
+  -- the index of a column and a row
+  abbrev at : ℕ → ℕ → ℕ
+  at m n = natural (stepped s m n)
+
+  -- the index in row j, of those from column m on, of the sample that comes first
+  abbrev start : ℕ → ℕ → ℕ
+  start m j = natural (stepped s m n +ℤ pos j *ℤ s .down)
+
+  start-at : (m j : ℕ) → start m j ≡ at m (n + j)
+  start-at m j = ap natural (sym (stepped-down s m n j))
+
+  -- rows whose samples i are those of the columns c i
+  rows : (m : ℕ) (c : ℕ → ℕ) → m < A → ((i : ℕ) → i < 4 → c i < A) → ((i j : ℕ) → i < 4 → j < 4 → start m j + i ≡ at (c i) (n + j))
+      → RowsIn plane (stepped s m n) (s .down)
+  rows m c l f e = record {
+    least = λ j g. subst (λ z. T (nonNeg z)) (stepped-down s m n j) (not-negative (p .leads) m (n + j) l (omega arith));
+    inside = λ j g. omega (arith, e 3 j (omega arith) g, p .leads .below (c 3) (n + j) (f 3 (omega arith)) (omega arith), p .whole);
+    small = λ j i g o. b .within (start m j + i) (omega (arith, e i j o g, p .leads .below (c i) (n + j) (f i o) (omega arith)));
+  }
+
+  -- ---- ahead
+
+  module _ (e : s .across ≡ pos 1) where
+    ahead-row : (i j : ℕ) → i < 4 → j < 4 → start m j + i ≡ at (m + i) (n + j)
+    ahead-row i j l g = omega (
+      arith,
+      start-at m j,
+      steps-unbroken (p .leads) e (m + i) (n + j) (omega arith) (omega arith),
+      steps-unbroken (p .leads) e m (n + j) (omega arith) (omega arith),
+    )
+
+    ahead-in : RowsIn plane (stepped s m n) (s .down)
+    ahead-in = rows m (λ i. m + i) (omega arith) (λ i l. omega arith) ahead-row
+
+    ahead-sum : (w u : Weights)
+        → gridSum w u (λ j i. sampleAt plane (start m j + i)) ≡ gridSum w u (λ j i. sampleBySteps plane s (m + i) (n + j))
+    ahead-sum w u = grid-cong w u _ _ (λ i j l g. ap (sampleAt plane) (ahead-row i j l g))
+
+  -- ---- back
+
+  module _ (e : s .across ≡ negℤ (pos 1)) where
+    backwards : (c i r : ℕ) → stepped s (c + i) r +ℤ pos i ≡ stepped s c r
+    backwards c i r =
+        ap (λ z. s .base +ℤ pos (c + i) *ℤ z +ℤ pos r *ℤ s .down +ℤ pos i) e
+        ∙ solve (s .base ∷ pos c ∷ pos i ∷ (pos r *ℤ s .down) ∷ [])
+        (var 0 ⊕ (var 1 ⊕ var 2) ⊗ ⊖ (con (pos 1)) ⊕ var 3 ⊕ var 2) (var 0 ⊕ var 1 ⊗ ⊖ (con (pos 1)) ⊕ var 3) tt
+        ∙ ap (λ z. s .base +ℤ pos c *ℤ z +ℤ pos r *ℤ s .down) (sym e)
+
+    behind : (c i r : ℕ) → c + i < A → r < A → at (c + i) r + i ≡ at c r
+    behind c i r l g = pos-inj (at (c + i) r + i) (at c r)
+        (ap (λ z. z +ℤ pos i) (sym (p .leads .gives (c + i) r l g)) ∙ backwards c i r ∙ p .leads .gives c r (omega arith) g)
+
+    back-row : (i j : ℕ) → i < 4 → j < 4 → start (m + 3) j + i ≡ at (m + (3 - i)) (n + j)
+    back-row i j l g =
+        ap (λ x. x + i) (start-at (m + 3) j)
+        ∙ ap (λ c. at c (n + j) + i) (split i l)
+        ∙ behind (m + (3 - i)) i (n + j) (omega arith) (omega arith)
+      where
+        split : (i : ℕ) → i < 4 → m + 3 ≡ m + (3 - i) + i
+        split i l = omega arith
+
+    back-in : RowsIn plane (stepped s (m + 3) n) (s .down)
+    back-in = rows (m + 3) (λ i. m + (3 - i)) h (λ i l. omega arith) back-row
+
+    back-sum : (w u : Weights)
+        → gridSum w (reversed u) (λ j i. sampleAt plane (start (m + 3) j + i)) ≡ gridSum w u (λ j i. sampleBySteps plane s (m + i) (n + j))
+    back-sum w u =
+        grid-cong w (reversed u) _ (λ j i. sampleBySteps plane s (m + (3 - i)) (n + j)) (λ i j l g. ap (sampleAt plane) (back-row i j l g))
+        ∙ grid-reversed w u (λ j i. sampleBySteps plane s (m + i) (n + j))
+
+  -- ---- either
+
+  module _ (l : Lined s) where
+    pub lined-in : RowsIn plane (stepped s (firstOf s m) n) (s .down)
+    lined-in = go (ahead s) refl
+      where
+        go : (b : Bool) → ahead s ≡ b → RowsIn plane (stepped s (cond b m (m + 3)) n) (s .down)
+        go true e = ahead-in (is-ahead (s .across) e)
+        go false e = back-in (is-back (s .across) l e)
+
+    pub lined-sum : (w u : Weights) → gridSum w (cond (ahead s) u (reversed u)) (λ j i. sampleAt plane (start (firstOf s m) j + i))
+        ≡ gridSum w u (λ j i. sampleBySteps plane s (m + i) (n + j))
+    lined-sum w u = go (ahead s) refl
+      where
+        go : (b : Bool) → ahead s ≡ b → gridSum w (cond b u (reversed u)) (λ j i. sampleAt plane (start (cond b m (m + 3)) j + i))
+            ≡ gridSum w u (λ j i. sampleBySteps plane s (m + i) (n + j))
+        go true e = ahead-sum (is-ahead (s .across) e) w u
+        go false e = back-sum (is-back (s .across) l e) w u

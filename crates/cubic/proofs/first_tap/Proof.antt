@@ -1,0 +1,33 @@
+-- `first_tap` meets its contract: the quotient is one more than T divided by 64 and rounded down.
+use mathlib.Core.Path.{sym, _∙_, subst}
+use Prim.Native.Nat.{_+_, _/_, _≤_}
+use native.Mathlib.Omega.{arith}
+use lib.IntN.{pos, natAbs}
+use borrow.Author.Needs.{needs}
+use Rattle.arithmetic.proofs.Narrow.{Narrow, narrow-nat, sub-ok, sub}
+use Rattle.cubic.proofs.Stretches.{tap-by-quotient}
+use Rattle.cubic.proofs.first_tap.Statement.{statement}
+use Rattle.cubic.proofs.first_tap.Tie as tie
+
+quotient : (c : tie.Start) → Narrow ((c .args .n + 32) / 64) (pos ((c .args .n + 32) / 64)) 512
+quotient c = narrow-nat (omega (arith, c .pre)) tt
+
+two : Narrow 2 (pos 2) 2
+two = narrow-nat (omega arith) tt
+
+returns : tie.Need-returns
+returns c =
+    let read = sub (quotient c) two tt in
+    (read .is ∙ sym (tap-by-quotient (c .args .n)), subst (λ z. natAbs z ≤ 514) (sym (read .is)) (read .small))
+
+add-result : tie.Need-add-result
+add-result c = search needs
+
+cast-result : tie.Need-cast-result
+cast-result c = search needs
+
+sub-result : tie.Need-sub-result
+sub-result c = sub-ok (quotient c) two tt
+
+pub first-tap-spec : {M : Type 1} → statement M
+first-tap-spec = tie.close (tie.spec add-result cast-result sub-result returns)

@@ -1,0 +1,2 @@
+pub mod Taps
+pub mod Fields
