@@ -32,7 +32,7 @@ static const int turn[4] = {29, 3, 7, -5};
 static const char *const names[CASES] = {
     "CMP nearest", "CMP cubic", "ACP nearest", "ACP cubic", "CMP-ACP near.", "CMP-ACP cubic", "ACP-CMP near.", "ACP-CMP cubic",
 };
-static const double wanted[CASES] = {5, 4.5, 5, 4.5, 3, 3, 3, 3};
+static const double wanted[CASES] = {6, 6, 5.5, 5.5, 3, 3, 3, 3};
 static const struct conversion conversions[CASES] = {
     {SIZE, DEPTH, WELCHODRYS_CMP, WELCHODRYS_CMP, WELCHODRYS_NEAREST, usual_layout, turn},
     {SIZE, DEPTH, WELCHODRYS_CMP, WELCHODRYS_CMP, WELCHODRYS_CUBIC, usual_layout, turn},

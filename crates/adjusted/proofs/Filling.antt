@@ -1,17 +1,16 @@
 -- The table filled column by column, and the flags that are gathered on the way.
 use mathlib.Core.Path.{_≡_, refl, sym, _∙_, ap, subst}
-use mathlib.Core.Logic.{inl, inr}
 use mathlib.Core.Bool.{Bool, true, false, _&&_}
 use mathlib.Core.List.{List}
 use Prim.Native.Nat.{ℕ, _+_, _^_, _≤_, _<_}
-use native.Mathlib.Nat.{eq-or-lt-of-le, le-refl}
+use native.Mathlib.Nat.{le-refl}
 use native.Mathlib.Omega.{arith}
 use lib.Bits.{bitOr}
 use lib.Dec.{T, ltb, ltb→lt, lt→ltb, nltb→le}
 use lib.IntN.{pos, _-ℤ_}
 use lib.ListN.{length, getD, set, length-set}
-use lib.Seq.{getD-set-same, getD-set-other}
 use Rattle.arithmetic.proofs.Bits.{or-below}
+use Rattle.arithmetic.proofs.Filling.{entries-next, entries-kept}
 use Rattle.arithmetic.proofs.Tests.{passes, and-left, and-right}
 use Rattle.cubemap.specs.declared.Format.{Format}
 use Rattle.cubemap.specs.RayToPlace.{position64}
@@ -33,22 +32,9 @@ abbrev pub Entry : ℕ → List ℕ → List ℕ → ℕ → ℕ → Type 0
 Entry A sums distances j q = position64 Format.Acp A (pos (getD sums j 0) -ℤ pos (getD distances j 0)) (getD distances j 0) ≡ pos q -ℤ pos 32
 
 module _ (A : ℕ) (sums distances : List ℕ) (from : ℕ) where
-  -- no column yet, and one more
+  -- no column yet
   pub adjusted-none : (table : List ℕ) → Adjusted A sums distances from from table
   adjusted-none table = record { entry = λ i h l. absurd (omega arith) }
-
-  adjusted-next : (j : ℕ) (table : List ℕ) (q : ℕ) → j < length table → Adjusted A sums distances from j table → Entry A sums distances j q
-      → Adjusted A sums distances from (j + 1) (set table j q)
-  adjusted-next j table q inside n e = record { entry = go }
-    where
-      go : (i : ℕ) → from ≤ i → i < j + 1 → Entry A sums distances i (getD (set table j q) i 0)
-      go i h l =
-          let at-most : i ≤ j = omega (arith, l) in
-          elim (eq-or-lt-of-le at-most) [
-            | inl u ↦ subst (λ i. Entry A sums distances i (getD (set table j q) i 0)) (sym u)
-                (e ∙ ap (λ q. pos q -ℤ pos 32) (sym (getD-set-same table j q 0 inside)))
-            | inr u ↦ n .entry i h u ∙ ap (λ q. pos q -ℤ pos 32) (sym (getD-set-other table j i q 0 (λ (f : i ≡ j). absurd (omega (arith, u, f)))))
-          ]
 
   -- ---- the loop
 
@@ -71,11 +57,14 @@ module _ (A : ℕ) (sums distances : List ℕ) (from : ℕ) where
       begun = omega (arith, r .begun);
       bounded = omega arith;
       whole = length-set table j q ∙ r .whole;
-      kept = λ i h. getD-set-other table j i q 0 (λ (f : i ≡ j). absurd (omega (arith, r .begun, h, f))) ∙ r .kept i h;
+      kept = λ i h. entries-kept table q 0 (r .begun) h ∙ r .kept i h;
       told = λ t u.
           let high-parts = or-parts 62 high w t in
           let sizes-parts = or-parts 29 sizes k u in
-          adjusted-next j table q (omega (arith, r .whole)) (r .told (high-parts .0) (sizes-parts .0)) (e (high-parts .1) (sizes-parts .1));
+          record {
+            entry = entries-next table q 0 (Entry A sums distances) (omega (arith, r .whole)) (r .told (high-parts .0) (sizes-parts .0) .entry)
+                (e (high-parts .1) (sizes-parts .1));
+          };
     }
 
     -- at the end all are there, where a test tells that the flags are low

@@ -11,3 +11,4 @@ pub mod Bits
 pub mod Tables
 pub mod Divisors
 pub mod Narrow
+pub mod Filling

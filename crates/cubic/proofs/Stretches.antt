@@ -3,12 +3,12 @@ use mathlib.Core.Path.{_≡_, sym, _∙_, ap, ap₂}
 use mathlib.Core.List.{List, [], _∷_}
 use Prim.Native.Nat.{ℕ, _+_, _*_, _-_, _/_, _%_, _≤_, _<_}
 use native.Mathlib.Nat.{div-add-mod'}
-use native.Mathlib.Decide.{ℕ-discrete}
 use native.Mathlib.Omega.{arith}
 use lib.IntN.{ℤ, pos, _+ℤ_, _-ℤ_, _*ℤ_}
 use lib.ListN.{length, getD, set, length-set}
-use lib.Seq.{sets, getD-set-same, getD-set-other}
+use lib.Seq.{sets}
 use Rattle.arithmetic.specs.Integers.{floorDiv}
+use Rattle.arithmetic.proofs.Filling.{entries-next}
 use Rattle.arithmetic.proofs.Floors.{floor-unique}
 use Rattle.arithmetic.proofs.Ring.{var, con, _⊕_, _⊗_, _⊝_, solve}
 use Rattle.cubemap.specs.Interface.{littleEndian}
@@ -16,7 +16,7 @@ use Rattle.cubemap.specs.Samplers.{phase, tapAt}
 use Rattle.cubemap.proofs.Samplers.{phase-split, first-tap}
 use Rattle.frame.specs.Placing.{placed}
 use Rattle.frame.proofs.Placing.{placed-none, placed-length, placed-next, placed-run, placed-cong}
-use Rattle.cubic.specs.Stretches.{positionOf, Filled}
+use Rattle.cubic.specs.Stretches.{positionOf, Filled, stretched}
 
 -- ---- T divided by 64 and rounded down, and what is left, by a division of q + 32 = T + 64: the quotient is one more
 
@@ -59,26 +59,22 @@ pub record Filling (f : ℕ → ℕ → ℕ) (columns rows : List ℕ) (from to 
 -- number j comes next
 pub filled-next : {f : ℕ → ℕ → ℕ} {columns rows table : List ℕ} {from to j v : ℕ} → Filling f columns rows from to j table
     → j < to → to ≤ 512 → v ≡ f (getD columns j 0) (getD rows j 0) → Filling f columns rows from to (j + 1) (set table j v)
-filled-next {f} {columns} {rows} {table} {from} {to} {j} {v} w h b e = record {
+filled-next {f} {columns} {rows} {table} {j = j} {v = v} w h b e = record {
   from-on = omega (arith, w .from-on);
   bounded = omega arith;
-  done = record { whole = length-set table j v ∙ w .done .whole; entry-is = λ i l k. go i l k (ℕ-discrete i j) };
+  done = record {
+    whole = length-set table j v ∙ w .done .whole;
+    entry-is = entries-next table v 0 (λ i n. n ≡ f (getD columns i 0) (getD rows i 0)) (omega (arith, w .done .whole)) (w .done .entry-is) e;
+  };
 }
-  where
-    go : (i : ℕ) → from ≤ i → i < j + 1 → Dec (i ≡ j) → getD (set table j v) i 0 ≡ f (getD columns i 0) (getD rows i 0)
-    go i l k (yes d) = rw d (getD-set-same table j v 0 (omega (arith, w .done .whole)) ∙ e)
-    go i l k (no d) = getD-set-other table j i v 0 d ∙ w .done .entry-is i l (omega arith)
 
 -- ---- values placed from number to number, each at index `at` plus its number
-
-abbrev pub stretch : List ℕ → ℕ → (ℕ → ℕ) → ℕ → ℕ → List ℕ
-stretch bytes at g from to = placed bytes (at + from) (λ j. g (from + j)) (to - from)
 
 -- those from number `from` up to number j are placed
 pub record Stretched (at : ℕ) (g : ℕ → ℕ) (from to : ℕ) (before now : List ℕ) (j : ℕ) : Type 0 where
   pub from-on : from ≤ j
   pub bounded : j ≤ to
-  pub holds : now ≡ stretch before at g from j
+  pub holds : now ≡ stretched before at g from j
 
 module _ (at : ℕ) (g : ℕ → ℕ) (from to : ℕ) (before : List ℕ) (h : from ≤ to) (room : 2 * (at + to) ≤ length before) where
   -- none yet
@@ -97,8 +93,8 @@ module _ (at : ℕ) (g : ℕ → ℕ) (from to : ℕ) (before : List ℕ) (h : f
     stretched-length = ap length (w .holds) ∙ placed-length before (at + from) (λ j. g (from + j)) (j - from) (omega (arith, w .bounded))
 
     -- all of them
-    pub all-stretched : to ≤ j → now ≡ stretch before at g from to
-    all-stretched l = w .holds ∙ ap (stretch before at g from) last
+    pub all-stretched : to ≤ j → now ≡ stretched before at g from to
+    all-stretched l = w .holds ∙ ap (stretched before at g from) last
       where
         last : j ≡ to
         last = omega (arith, w .bounded)
@@ -111,7 +107,7 @@ module _ (at : ℕ) (g : ℕ → ℕ) (from to : ℕ) (before : List ℕ) (h : f
       bounded = omega arith;
       holds = d
           ∙ ap₂ (λ bytes n. sets bytes (2 * (at + j)) (littleEndian 2 n)) (w .holds) (e ∙ ap g number)
-          ∙ ap (λ i. sets (stretch before at g from j) (2 * i) (littleEndian 2 (g (from + (j - from))))) index
+          ∙ ap (λ i. sets (stretched before at g from j) (2 * i) (littleEndian 2 (g (from + (j - from))))) index
           ∙ placed-next before (at + from) (λ i. g (from + i)) (j - from) (omega arith)
           ∙ ap (placed before (at + from) (λ i. g (from + i))) count;
     }
@@ -126,14 +122,14 @@ module _ (at : ℕ) (g : ℕ → ℕ) (from to : ℕ) (before : List ℕ) (h : f
         count = omega (arith, w .from-on)
 
     -- another stretch
-    pub stretched-run : {after : List ℕ} (k : ℕ) → j ≤ k → k ≤ to → after ≡ stretch now at g j k → Stretched at g from to before after k
+    pub stretched-run : {after : List ℕ} (k : ℕ) → j ≤ k → k ≤ to → after ≡ stretched now at g j k → Stretched at g from to before after k
     stretched-run {after} k l b e = record {
       from-on = omega (arith, w .from-on);
       bounded = b;
       holds = e
-          ∙ ap (λ bytes. stretch bytes at g j k) (w .holds)
-          ∙ placed-cong (stretch before at g from j) (at + j) (λ i. g (j + i)) rest (k - j) (λ i n. ap g (number i))
-          ∙ ap (λ i. placed (stretch before at g from j) i rest (k - j)) index
+          ∙ ap (λ bytes. stretched bytes at g j k) (w .holds)
+          ∙ placed-cong (stretched before at g from j) (at + j) (λ i. g (j + i)) rest (k - j) (λ i n. ap g (number i))
+          ∙ ap (λ i. placed (stretched before at g from j) i rest (k - j)) index
           ∙ placed-run before (at + from) (λ i. g (from + i)) (j - from) (k - j) (omega (arith, w .from-on))
           ∙ ap (placed before (at + from) (λ i. g (from + i))) count;
     }

@@ -2,7 +2,7 @@
 // read at once; at the rim each tap is read by its place.
 ghost use mathlib.Core.Path.{_≡_};
 ghost use mathlib.Core.Bool.{cond};
-ghost use Prim.Native.Nat.{_+_, _*_, _-_, _^_, _≤_, _<_};
+ghost use Prim.Native.Nat.{_+_, _*_, _^_, _≤_, _<_};
 ghost use lib.Dec.{T};
 ghost use lib.IntN.{pos, natAbs, _+ℤ_, _*ℤ_};
 ghost use lib.ListN.{length};
@@ -12,12 +12,11 @@ ghost use Rattle.cubemap.specs.Frames.{sampleAt};
 ghost use Rattle.cubemap.specs.Checks.{depthOK};
 ghost use Rattle.cubemap.specs.Samplers.{tapPlace};
 ghost use Rattle.cubemap.specs.Samplers as paper;
-ghost use Rattle.frame.specs.Placing.{placed};
 ghost use Rattle.indices.specs.Steps.{Lined, FaceLeads, Shallow, SteppedFace};
 ghost use Rattle.taps.specs.Taps.{IsWeights, weightsOf, Balanced, gridSum};
 ghost use Rattle.taps.specs.Taps as by;
 ghost use Rattle.taps.specs.Fields.{Packed, Packed12};
-ghost use Rattle.cubic.specs.Stretches.{positionOf, positionIn, OnFaces, Filled, onFace, sampledOn, tapped};
+ghost use Rattle.cubic.specs.Stretches.{positionOf, OnFaces, Filled, onFace, sampledOn, sampledAt, stretched, tapped};
 ghost use Rattle.cubic.specs.Lines.{ahead, firstOf, inFace, firstTap, firstIndex, RowsIn};
 use indices::FaceSteps;
 use taps::Weights;
@@ -263,9 +262,8 @@ fn inside_along(
     requires { ⌜ SteppedFace size (now plane) steps × Lined steps × Shallow size (now plane) × IsWeights (now weights) × T (depthOK depth) ⌝ }
     requires { ⌜ Filled (firstIndex size steps) (now columns) (now rows) from to (now firsts) ⌝ }
     requires { ⌜ (from ≤ to) × (to ≤ 512) × (at ≤ 1572864) × (2 * (at + to) ≤ length (now target)) ⌝ }
-    ensures { λ r. ⌜ (from ≤ r) × (r ≤ to) × (now (target .exit) ≡ placed (now (target .entry)) (at + from)
-        (λ j. sampledOn Sampler.Cubic (now (plane .entry)) steps size depth (positionIn (now (columns .entry)) (from + j)) (positionIn (now (rows .entry)) (from + j)))
-        (r - from)) ⌝ }
+    ensures { λ r. ⌜ (from ≤ r) × (r ≤ to) × (now (target .exit) ≡ stretched (now (target .entry)) at
+        (sampledAt Sampler.Cubic (now (plane .entry)) steps size depth (now (columns .entry)) (now (rows .entry))) from r) ⌝ }
 {
     let start = at + from;
     let count = to - from;
@@ -310,9 +308,8 @@ fn cubic_from(
     requires { ⌜ SteppedFace size (now plane) steps × Lined steps × Shallow size (now plane) × IsWeights (now weights) × T (depthOK depth) ⌝ }
     requires { ⌜ (1 ≤ size) × OnFaces size from to (now columns) (now rows) × Filled (firstIndex size steps) (now columns) (now rows) from to (now firsts) ⌝ }
     requires { ⌜ (from < to) × (to ≤ 512) × (at ≤ 1572864) × (2 * (at + to) ≤ length (now target)) ⌝ }
-    ensures { λ r. ⌜ (from < r) × (r ≤ to) × (now (target .exit) ≡ placed (now (target .entry)) (at + from)
-        (λ j. sampledOn Sampler.Cubic (now (plane .entry)) steps size depth (positionIn (now (columns .entry)) (from + j)) (positionIn (now (rows .entry)) (from + j)))
-        (r - from)) ⌝ }
+    ensures { λ r. ⌜ (from < r) × (r ≤ to) × (now (target .exit) ≡ stretched (now (target .entry)) at
+        (sampledAt Sampler.Cubic (now (plane .entry)) steps size depth (now (columns .entry)) (now (rows .entry))) from r) ⌝ }
 {
     let end = inside_along(
         plane,
@@ -362,9 +359,8 @@ pub fn cubic_along(
     requires { ⌜ SteppedFace size (now plane) steps × Lined steps × Shallow size (now plane) × IsWeights (now weights) × T (depthOK depth) ⌝ }
     requires { ⌜ (1 ≤ size) × OnFaces size from to (now columns) (now rows) ⌝ }
     requires { ⌜ (from ≤ to) × (to ≤ 512) × (at ≤ 1572864) × (2 * (at + to) ≤ length (now target)) × (length (now firsts) ≡ 512) ⌝ }
-    ensures { λ _. ⌜ (now (target .exit) ≡ placed (now (target .entry)) (at + from)
-        (λ j. sampledOn Sampler.Cubic (now (plane .entry)) steps size depth (positionIn (now (columns .entry)) (from + j)) (positionIn (now (rows .entry)) (from + j)))
-        (to - from)) × (length (now (firsts .exit)) ≡ 512) ⌝ }
+    ensures { λ _. ⌜ (now (target .exit) ≡ stretched (now (target .entry)) at
+        (sampledAt Sampler.Cubic (now (plane .entry)) steps size depth (now (columns .entry)) (now (rows .entry))) from to) × (length (now (firsts .exit)) ≡ 512) ⌝ }
 {
     firsts_along(size, steps, columns, rows, from, to, firsts);
     let mut j = from;

@@ -1,16 +1,14 @@
 -- The table of a stretch's positions, filled column by column.
-use mathlib.Core.Path.{_≡_, sym, _∙_, ap, subst}
-use mathlib.Core.Logic.{inl, inr}
+use mathlib.Core.Path.{_≡_, _∙_, ap, subst}
 use mathlib.Core.List.{List}
 use Prim.Native.Nat.{ℕ, _+_, _≤_, _<_}
-use native.Mathlib.Nat.{eq-or-lt-of-le}
 use native.Mathlib.Omega.{arith}
 use lib.IntN.{ℤ, pos, _-ℤ_}
-use lib.ListN.{length, getD, set, length-set}
-use lib.Seq.{getD-set-same, getD-set-other}
+use lib.ListN.{length, set, length-set}
 use mir.Syntax.{w64}
 use mir.Val.{SFits, toZ, ofZ}
 use mir.Facts.{toZ-ofZ}
+use Rattle.arithmetic.proofs.Filling.{entries-next, entries-kept}
 use Rattle.cubemap.specs.declared.Format.{Format}
 use Rattle.positions.specs.declared.Line.{Line}
 use Rattle.positions.specs.Lines.{lineAt, positionAt, Positioned, Kept}
@@ -35,20 +33,11 @@ module _ (format : Format) (A : ℕ) (line distance : Line) (coordinates : List 
     begun = omega (arith, f .begun);
     bounded = omega arith;
     whole = length-set table j t ∙ f .whole;
-    kept = λ i h. getD-set-other table j i t 0 (λ (s : i ≡ j). absurd (omega (arith, f .begun, h, s))) ∙ f .kept i h;
-    there = record { entry = entry };
+    kept = λ i h. entries-kept table t 0 (f .begun) h ∙ f .kept i h;
+    there = record {
+      entry = entries-next table t 0 (λ i n. positionAt format A line distance coordinates i ≡ pos n -ℤ pos 32) (omega (arith, f .whole)) (f .there .entry) e;
+    };
   }
-    where
-      entry : (i : ℕ) → from ≤ i → i < j + 1 → positionAt format A line distance coordinates i ≡ pos (getD (set table j t) i 0) -ℤ pos 32
-      entry i h k =
-          let at-most : i ≤ j = omega (arith, k) in
-          elim (eq-or-lt-of-le at-most) [
-            | inl s ↦
-                ap (positionAt format A line distance coordinates) s ∙ e
-                ∙ ap (λ n. pos n -ℤ pos 32) (sym (ap (λ i. getD (set table j t) i 0) s ∙ getD-set-same table j t 0 (omega (arith, f .whole))))
-            | inr u ↦
-                f .there .entry i h u ∙ ap (λ n. pos n -ℤ pos 32) (sym (getD-set-other table j i t 0 (λ s. absurd (omega (arith, u, s)))))
-          ]
 
   -- where j has come to the end, all are there
   pub filled-all : {j : ℕ} {table : List ℕ} → Filled j table → to ≤ j

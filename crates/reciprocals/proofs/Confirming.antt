@@ -1,13 +1,12 @@
 -- Guesses of a stretch, confirmed: the bits of all columns together are small only where each column's are.
-use mathlib.Core.Path.{_≡_, sym, _∙_, subst}
-use mathlib.Core.Logic.{inl, inr}
+use mathlib.Core.Path.{_≡_, _∙_, subst}
 use mathlib.Core.List.{List}
 use Prim.Native.Nat.{ℕ, _+_, _*_, _%_, _^_, _≤_, _<_}
-use native.Mathlib.Nat.{eq-or-lt-of-le, mul-le-mul}
+use native.Mathlib.Nat.{mul-le-mul}
 use native.Mathlib.Omega.{arith}
 use lib.ListN.{length, getD, set, length-set}
 use lib.Pow.{pow-mono, shl-exact}
-use lib.Seq.{getD-set-same, getD-set-other}
+use Rattle.arithmetic.proofs.Filling.{entries-next}
 use Rattle.reciprocals.specs.Reciprocals.{Distances, Reciprocal, Reciprocals}
 
 -- ---- numbers that fit
@@ -32,24 +31,14 @@ pub remainder-near : (shift dividend distance r : ℕ) → dividend + 1 ≡ 2147
     → distance < 2 * 2 ^ shift → Reciprocal shift distance r
 remainder-near shift dividend distance r e h w = record { least = omega (arith, e, h .0); most = omega (arith, e, h .1); below = w }
 
--- ---- a table, column by column
+-- ---- a stretch
 
--- a part of a stretch
+-- a part of it
 pub distances-within : {distances : List ℕ} {from to : ℕ} (j k : ℕ) → Distances distances from to → from ≤ j → k ≤ to → Distances distances j k
 distances-within j k d f t = record {
   positive = λ i g h. d .positive i (omega arith) (omega arith);
   bounded = λ i g h. d .bounded i (omega arith) (omega arith);
 }
-
--- an entry more
-pub set-next : (P : ℕ → ℕ → Type 0) (from j : ℕ) (table : List ℕ) (r : ℕ) → j < length table
-    → ((i : ℕ) → from ≤ i → i < j → P i (getD table i 0)) → P j r → (i : ℕ) → from ≤ i → i < j + 1 → P i (getD (set table j r) i 0)
-set-next P from j table r inside before is i h k =
-    let at-most : i ≤ j = omega (arith, k) in
-    elim (eq-or-lt-of-le at-most) [
-      | inl e ↦ subst (λ i. P i (getD (set table j r) i 0)) (sym e) (subst (P j) (sym (getD-set-same table j r 0 inside)) is)
-      | inr u ↦ subst (P i) (sym (getD-set-other table j i r 0 (λ e. absurd (omega (arith, u, e))))) (before i h u)
-    ]
 
 -- ---- the loop
 
@@ -71,7 +60,7 @@ module _ (shift : ℕ) (distances : List ℕ) (from to : ℕ) where
     bounded = omega arith;
     whole = length-set table j r ∙ g .whole;
     there = λ u w. record {
-      entry = set-next (λ i v. Reciprocal shift (getD distances i 0) v) from j table r (omega (arith, g .whole))
+      entry = entries-next table r 0 (λ i. Reciprocal shift (getD distances i 0)) (omega (arith, g .whole))
           (g .there (omega (arith, u, p .0)) (omega (arith, w, q .0)) .entry)
           (near (omega (arith, u, p .1)) (omega (arith, w, q .1)));
     };

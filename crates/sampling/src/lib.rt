@@ -1,6 +1,6 @@
 // The two samplers along a stretch of positions of one face.
 ghost use mathlib.Core.Path.{_≡_};
-ghost use Prim.Native.Nat.{_+_, _*_, _-_, _≤_, _<_};
+ghost use Prim.Native.Nat.{_+_, _*_, _≤_, _<_};
 ghost use lib.Dec.{T};
 ghost use lib.ListN.{length, getD};
 ghost use Rattle.cubemap.specs.Interface.{samplerOf};
@@ -8,10 +8,9 @@ ghost use Rattle.cubemap.specs.Frames.{sampleAt};
 ghost use Rattle.cubemap.specs.Checks.{depthOK};
 ghost use Rattle.cubemap.specs.RayToPlace.{located};
 ghost use Rattle.cubemap.specs.Samplers.{nearestColumn, sampleFrom};
-ghost use Rattle.frame.specs.Placing.{placed};
 ghost use Rattle.indices.specs.Steps.{Lined, FaceLeads, Shallow, SteppedFace, SteppedPlane, sampleBy};
 ghost use Rattle.taps.specs.Taps.{IsWeights};
-ghost use Rattle.cubic.specs.Stretches.{positionOf, positionIn, OnFaces, Filled, sampledOn};
+ghost use Rattle.cubic.specs.Stretches.{positionOf, positionIn, OnFaces, Filled, sampledAt, stretched};
 ghost use Rattle.sampling.specs.Nearest.{nearestIndex, nearestOn, InPlane};
 use cubemap::Sampler;
 use indices::FaceSteps;
@@ -62,8 +61,8 @@ fn nearest_indices(
 fn samples_along(plane: &[u8], indices: &[u32; 512], from: u64, to: u64, at: u64, target: &mut [u8])
     requires { ⌜ InPlane (now plane) from to (now indices) ⌝ }
     requires { ⌜ (from ≤ to) × (to ≤ 512) × (at ≤ 1572864) × (2 * (at + to) ≤ length (now target)) ⌝ }
-    ensures { λ _. ⌜ now (target .exit) ≡ placed (now (target .entry)) (at + from)
-        (λ j. sampleAt (now (plane .entry)) (getD (now (indices .entry)) (from + j) 0)) (to - from) ⌝ }
+    ensures { λ _. ⌜ now (target .exit) ≡ stretched (now (target .entry)) at
+        (λ j. sampleAt (now (plane .entry)) (getD (now (indices .entry)) j 0)) from to ⌝ }
 {
     let start = at + from;
     let count = to - from;
@@ -90,9 +89,8 @@ fn nearest_along(
 )
     requires { ⌜ SteppedFace size (now plane) steps × Lined steps × (1 ≤ size) × OnFaces size from to (now columns) (now rows) ⌝ }
     requires { ⌜ (from ≤ to) × (to ≤ 512) × (at ≤ 1572864) × (2 * (at + to) ≤ length (now target)) × (length (now indices) ≡ 512) ⌝ }
-    ensures { λ _. ⌜ (now (target .exit) ≡ placed (now (target .entry)) (at + from)
-        (λ j. nearestOn (now (plane .entry)) steps size (positionIn (now (columns .entry)) (from + j)) (positionIn (now (rows .entry)) (from + j)))
-        (to - from)) × (length (now (indices .exit)) ≡ 512) ⌝ }
+    ensures { λ _. ⌜ (now (target .exit) ≡ stretched (now (target .entry)) at
+        (λ j. nearestOn (now (plane .entry)) steps size (positionIn (now (columns .entry)) j) (positionIn (now (rows .entry)) j)) from to) × (length (now (indices .exit)) ≡ 512) ⌝ }
 {
     nearest_indices(size, steps, columns, rows, from, to, indices);
     samples_along(plane, indices, from, to, at, target);
@@ -130,9 +128,8 @@ fn sample_lined(
     requires { ⌜ SteppedFace size (now plane) steps × Lined steps × Shallow size (now plane) × IsWeights (now weights) × T (depthOK depth) ⌝ }
     requires { ⌜ (1 ≤ size) × OnFaces size from to (now columns) (now rows) ⌝ }
     requires { ⌜ (from ≤ to) × (to ≤ 512) × (at ≤ 1572864) × (2 * (at + to) ≤ length (now target)) × (length (now indices) ≡ 512) ⌝ }
-    ensures { λ _. ⌜ (now (target .exit) ≡ placed (now (target .entry)) (at + from)
-        (λ j. sampledOn sampler (now (plane .entry)) steps size depth (positionIn (now (columns .entry)) (from + j)) (positionIn (now (rows .entry)) (from + j)))
-        (to - from)) × (length (now (indices .exit)) ≡ 512) ⌝ }
+    ensures { λ _. ⌜ (now (target .exit) ≡ stretched (now (target .entry)) at
+        (sampledAt sampler (now (plane .entry)) steps size depth (now (columns .entry)) (now (rows .entry))) from to) × (length (now (indices .exit)) ≡ 512) ⌝ }
 {
     match sampler {
         Sampler::Nearest => nearest_along(
@@ -184,9 +181,8 @@ pub fn sample_along(
     requires { ⌜ SteppedPlane size (now plane) (now steps) × Shallow size (now plane) × IsWeights (now weights) × T (depthOK depth) × (face < 6) ⌝ }
     requires { ⌜ OnFaces size from to (now columns) (now rows) ⌝ }
     requires { ⌜ (from ≤ to) × (to ≤ 512) × (at ≤ 1572864) × (2 * (at + to) ≤ length (now target)) × (length (now indices) ≡ 512) ⌝ }
-    ensures { λ _. ⌜ (now (target .exit) ≡ placed (now (target .entry)) (at + from)
-        (λ j. sampleFrom sampler size depth (sampleBy (now (plane .entry)) (now (steps .entry)))
-        (located face (positionIn (now (columns .entry)) (from + j)) (positionIn (now (rows .entry)) (from + j)))) (to - from)) × (length (now (indices .exit)) ≡ 512) ⌝ }
+    ensures { λ _. ⌜ (now (target .exit) ≡ stretched (now (target .entry)) at (λ j. sampleFrom sampler size depth (sampleBy (now (plane .entry)) (now (steps .entry)))
+        (located face (positionIn (now (columns .entry)) j) (positionIn (now (rows .entry)) j))) from to) × (length (now (indices .exit)) ≡ 512) ⌝ }
 {
     let on = indices::steps_at(steps, face);
     let across = on.across;

@@ -1,13 +1,11 @@
 -- The table of a line's numbers, filled column by column.
-use mathlib.Core.Path.{_≡_, sym, _∙_, ap, subst}
-use mathlib.Core.Logic.{inl, inr}
+use mathlib.Core.Path.{_≡_, _∙_, subst}
 use mathlib.Core.List.{List}
 use Prim.Native.Nat.{ℕ, _+_, _≤_, _<_}
-use native.Mathlib.Nat.{eq-or-lt-of-le}
 use native.Mathlib.Omega.{arith}
 use lib.IntN.{ℤ, natAbs, _+ℤ_, _*ℤ_}
-use lib.ListN.{length, getD, set, length-set}
-use lib.Seq.{getD-set-same, getD-set-other}
+use lib.ListN.{length, set, length-set}
+use Rattle.arithmetic.proofs.Filling.{entries-next}
 use Rattle.positions.specs.declared.Line.{Line}
 use Rattle.positions.specs.Lines.{coordinateAt}
 use Rattle.stretches.specs.Numbers.{Numbers}
@@ -30,18 +28,10 @@ module _ (l : Line) (coordinates : List ℤ) (from to : ℕ) where
     begun = omega (arith, f .begun);
     bounded = omega arith;
     whole = length-set table j n ∙ f .whole;
-    there = record { entry = entry };
+    there = record {
+      entry = entries-next table n 0 (λ i n. n ≡ natAbs (l .at +ℤ coordinateAt coordinates i *ℤ l .by)) (omega (arith, f .whole)) (f .there .entry) e;
+    };
   }
-    where
-      entry : (i : ℕ) → from ≤ i → i < j + 1 → getD (set table j n) i 0 ≡ natAbs (l .at +ℤ coordinateAt coordinates i *ℤ l .by)
-      entry i g k =
-          let at-most : i ≤ j = omega (arith, k) in
-          elim (eq-or-lt-of-le at-most) [
-            | inl s ↦
-                ap (λ i. getD (set table j n) i 0) s ∙ getD-set-same table j n 0 (omega (arith, f .whole)) ∙ e
-                ∙ ap (λ i. natAbs (l .at +ℤ coordinateAt coordinates i *ℤ l .by)) (sym s)
-            | inr u ↦ getD-set-other table j i n 0 (λ s. absurd (omega (arith, u, s))) ∙ f .there .entry i g u
-          ]
 
   -- where j has come to the end, all are there
   pub filled-all : {j : ℕ} {table : List ℕ} → Filled j table → to ≤ j → Numbers l coordinates from to table × (length table ≡ 512)

@@ -2,13 +2,12 @@
 use mathlib.Core.Path.{_≡_, refl, _∙_}
 use mathlib.Core.List.{List}
 use Prim.Native.Nat.{ℕ, _+_, _-_, _≤_, _<_}
-use native.Mathlib.Decide.{ℕ-discrete}
 use native.Mathlib.Omega.{arith}
 use lib.IntN.{ℤ, pos}
 use lib.ListN.{length, getD, set, length-set}
-use lib.Seq.{getD-set-same, getD-set-other}
 use mir.Facts.{toZ-ofZ}
 use borrow.Author.Needs.{needs}
+use Rattle.arithmetic.proofs.Filling.{entries-next}
 use Rattle.cubemap.specs.declared.Format.{Format}
 use Rattle.cubemap.specs.PlaceToRay.{faceCoordinate}
 use Rattle.geometry.proofs.face_coordinates.Statement.{statement}
@@ -25,12 +24,9 @@ filled : (format : Format) (size : ℕ) (coordinates : List ℤ) (m : ℕ) (z : 
 filled format size coordinates m z f l b e = record {
   bounded = omega arith;
   whole = length-set coordinates m z ∙ f .whole;
-  entry = λ j h. go j h (ℕ-discrete j m);
+  entry = λ j. entries-next {from = 0} coordinates z (pos 0) (λ j z. z ≡ faceCoordinate format size j) (omega (arith, f .whole))
+      (λ j h. f .entry j) e j (omega arith);
 }
-  where
-    go : (j : ℕ) → j < m + 1 → Dec (j ≡ m) → getD (set coordinates m z) j (pos 0) ≡ faceCoordinate format size j
-    go j h (yes d) = rw d (getD-set-same coordinates m z (pos 0) (omega (arith, f .whole)) ∙ e)
-    go j h (no d) = getD-set-other coordinates m j z (pos 0) d ∙ f .entry j (omega arith)
 
 abbrev Inv-loop : tie.InvT-loop
 Inv-loop format size coordinates₀ m₀ coordinates m = Filled format size coordinates m
