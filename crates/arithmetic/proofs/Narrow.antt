@@ -20,6 +20,10 @@ pub record Narrow (n : ℕ) (z : ℤ) (B : ℕ) : Type 0 where
   pub is : toZ w32 n ≡ z
   pub small : natAbs z ≤ B
 
+-- what is read is as small
+pub read-small : {n : ℕ} {z : ℤ} {B : ℕ} → Narrow n z B → natAbs (toZ w32 n) ≤ B
+read-small {B = B} p = subst (λ x. natAbs x ≤ B) (sym (p .is)) (p .small)
+
 -- a 32-bit number
 pub narrowed : (z : ℤ) {B : ℕ} → natAbs z ≤ B → T (ltb B (2 ^ 31)) → Narrow (ofZ w32 z) z B
 narrowed z h t = record { is = toZ-ofZ (sfits z h t); small = h }

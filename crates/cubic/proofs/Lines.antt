@@ -5,7 +5,7 @@ use mathlib.Core.List.{List, [], _∷_}
 use Prim.Native.Nat.{ℕ, _+_, _*_, _-_, _<_}
 use native.Mathlib.Omega.{arith}
 use lib.Dec.{T}
-use lib.IntN.{ℤ, pos, negsuc, negℤ, natAbs, _+ℤ_, _*ℤ_}
+use lib.IntN.{ℤ, pos, negℤ, natAbs, _+ℤ_, _*ℤ_}
 use lib.Signed.{nonNeg}
 use mir.Syntax.{w64}
 use mir.Val.{ofZ}
@@ -16,7 +16,7 @@ use Rattle.arithmetic.proofs.Ring.{var, con, _⊕_, _⊗_, ⊖, solve}
 use Rattle.cubemap.specs.Frames.{sampleAt, planeSamples}
 use Rattle.indices.specs.declared.FaceSteps.{FaceSteps}
 use Rattle.indices.specs.Steps.{stepped, Lined, Shallow, SteppedFace, sampleBySteps}
-use Rattle.indices.proofs.Stepping.{not-negative, steps-unbroken, step-ahead, step-back}
+use Rattle.indices.proofs.Stepping.{not-negative, steps-unbroken, not-ahead, step-ahead, step-back}
 use Rattle.taps.specs.declared.Weights.{Weights}
 use Rattle.taps.specs.Taps.{reversed, gridSum}
 use Rattle.taps.proofs.Sums.{grid-cong, grid-reversed}
@@ -29,8 +29,7 @@ is-ahead : (z : ℤ) → equalℤ z (pos 1) ≡ true → z ≡ pos 1
 is-ahead z e = equalℤ→eq z (pos 1) (passes e)
 
 is-back : (z : ℤ) → natAbs z ≡ 1 → equalℤ z (pos 1) ≡ false → z ≡ negℤ (pos 1)
-is-back (pos n) l e = absurd (fails e (subst (λ n. T (equalℤ (pos n) (pos 1))) (sym l) tt))
-is-back (negsuc n) l e = let d : n ≡ 0 = omega (arith, l) in ap negsuc d
+is-back z l e = not-ahead z l (λ d. fails e (subst (λ z. T (equalℤ z (pos 1))) (sym d) tt))
 
 -- the first of four columns inside a face
 pub first-inside : (s : FaceSteps) (m : ℕ) {A : ℕ} → m + 3 < A → firstOf s m < A

@@ -175,16 +175,17 @@ steps-unbroken {s = s} {at} w e m n p q = pos-inj (at m n) (at 0 n + m)
 
 -- ---- along the lines of a frame
 
+-- a step of 1 or −1 that is not 1
+pub not-ahead : (z : ℤ) → natAbs z ≡ 1 → (z ≡ pos 1 → ⊥) → z ≡ negℤ (pos 1)
+not-ahead (pos n) e f = absurd (f (ap pos e))
+not-ahead (negsuc n) e f = let d : n ≡ 0 = omega (arith, e) in ap negsuc d
+
 -- a step across that is read as 1, and one that is not
 pub step-ahead : (s : FaceSteps) → Lined s → ofZ w64 (s .across) ≡ 1 → s .across ≡ pos 1
 step-ahead s l e = sym (held (s .across) {B = 1} (omega (arith, l)) tt .is) ∙ ap (toZ w64) e
 
 pub step-back : (s : FaceSteps) → Lined s → (ofZ w64 (s .across) ≡ 1 → ⊥) → s .across ≡ negℤ (pos 1)
-step-back s l f = go (s .across) l (λ e. f (ap (ofZ w64) e))
-  where
-    go : (z : ℤ) → natAbs z ≡ 1 → (z ≡ pos 1 → ⊥) → z ≡ negℤ (pos 1)
-    go (pos n) e f = absurd (f (ap pos e))
-    go (negsuc n) e f = let d : n ≡ 0 = omega (arith, e) in ap negsuc d
+step-back s l f = not-ahead (s .across) l (λ e. f (ap (ofZ w64) e))
 
 -- ---- planes
 

@@ -1,7 +1,7 @@
 -- `first_index` meets its contract: the steps lead to the first sample where the sixteen taps are inside the face.
 use mathlib.Core.Path.{_≡_, sym, _∙_, ap, ap₂, subst}
 use mathlib.Core.Bool.{_&&_}
-use Prim.Native.Nat.{ℕ, _≤_, _<_}
+use Prim.Native.Nat.{ℕ, _<_}
 use native.Mathlib.Omega.{arith}
 use lib.Dec.{T}
 use lib.IntN.{ℤ, natAbs}
@@ -12,7 +12,7 @@ use borrow.Author.Needs.{needs}
 use Rattle.arithmetic.specs.Integers.{natural}
 use Rattle.arithmetic.proofs.Sizes.{natAbs-natural}
 use Rattle.arithmetic.proofs.Tests.{passes, fails, and-left, and-right, cond-true, cond-false}
-use Rattle.arithmetic.proofs.Narrow.{Narrow, narrowed, cast-ok}
+use Rattle.arithmetic.proofs.Narrow.{Narrow, read-small, narrowed, cast-ok}
 use Rattle.indices.specs.declared.FaceSteps.{FaceSteps}
 use Rattle.indices.specs.Steps.{stepped}
 use Rattle.indices.proofs.Stepping.{not-negative}
@@ -103,10 +103,6 @@ returns-2 c =
     (natural (stepped (a .steps) (firstOf (a .steps) (natural (firstTap (a .column)))) (natural (firstTap (a .row))))) 4294967295
     (fails (sym (tested b) ∙ c .if1 .left)))
 
--- what is read is as small
-read-small : (z : ℤ) → natAbs z ≤ 514 → natAbs (toZ w32 (ofZ w32 z)) ≤ 514
-read-small z h = subst (λ z. natAbs z ≤ 514) (sym (narrowed z h tt .is)) h
-
 first-tap-requires : tie.Need-first-tap-requires
 first-tap-requires c κs = omega arith
 
@@ -114,10 +110,10 @@ first-tap-requires-2 : tie.Need-first-tap-requires-2
 first-tap-requires-2 c κs = let s : tie.Start = c .before in omega (arith, s .pre .2, s .pre .4)
 
 in-face-requires : tie.Need-in-face-requires
-in-face-requires c κs = (c .before .before .pre .2, read-small (c .before .first-tap .result) (c .before .first-tap .ensures .1))
+in-face-requires c κs = (c .before .before .pre .2, read-small (narrowed (c .before .first-tap .result) (c .before .first-tap .ensures .1) tt))
 
 in-face-requires-2 : tie.Need-in-face-requires-2
-in-face-requires-2 c κs = (c .before .before .before .pre .2, read-small (c .before .first-tap2 .result) (c .before .first-tap2 .ensures .1))
+in-face-requires-2 c κs = (c .before .before .before .pre .2, read-small (narrowed (c .before .first-tap2 .result) (c .before .first-tap2 .ensures .1) tt))
 
 cast-first-in-line : tie.Need-cast-first-in-line
 cast-first-in-line c = cast-ok (column (both c)) tt (x-natural c)

@@ -1,10 +1,10 @@
 -- `first_tap` meets its contract: the quotient is one more than T divided by 64 and rounded down.
-use mathlib.Core.Path.{sym, _∙_, subst}
-use Prim.Native.Nat.{_+_, _/_, _≤_}
+use mathlib.Core.Path.{sym, _∙_}
+use Prim.Native.Nat.{_+_, _/_}
 use native.Mathlib.Omega.{arith}
-use lib.IntN.{pos, natAbs}
+use lib.IntN.{pos}
 use borrow.Author.Needs.{needs}
-use Rattle.arithmetic.proofs.Narrow.{Narrow, narrow-nat, sub-ok, sub}
+use Rattle.arithmetic.proofs.Narrow.{Narrow, read-small, narrow-nat, sub-ok, sub}
 use Rattle.cubic.proofs.Stretches.{tap-by-quotient}
 use Rattle.cubic.proofs.first_tap.Statement.{statement}
 use Rattle.cubic.proofs.first_tap.Tie as tie
@@ -18,7 +18,7 @@ two = narrow-nat (omega arith) tt
 returns : tie.Need-returns
 returns c =
     let read = sub (quotient c) two tt in
-    (read .is ∙ sym (tap-by-quotient (c .args .n)), subst (λ z. natAbs z ≤ 514) (sym (read .is)) (read .small))
+    (read .is ∙ sym (tap-by-quotient (c .args .n)), read-small read)
 
 add-result : tie.Need-add-result
 add-result c = search needs
