@@ -1,13 +1,12 @@
-// What a call answers, on its way to C: numbers in a lent buffer, and the code of a refusal.
+// What a call answers, on its way to C: numbers in a lent buffer.
 ghost use mathlib.Core.Path.{_≡_};
 ghost use Prim.Native.Nat.{_+_, _%_, _≤_, _<_};
 ghost use lib.IntN.{pos};
 ghost use lib.ListN.{length};
 ghost use lib.Seq.{sets};
-ghost use Rattle.cubemap.specs.Interface.{littleEndian, twosComplement, putAt, putAll, returnCode};
-ghost use Rattle.cubemap.specs.Outcomes.{scoreValues, foldValues, equalValues, lookUpValues, refusal};
+ghost use Rattle.cubemap.specs.Interface.{littleEndian, twosComplement, putAt, putAll};
+ghost use Rattle.cubemap.specs.Outcomes.{scoreValues, foldValues, equalValues, lookUpValues};
 use cubemap::Located;
-use cubemap::Refusal;
 use cubemap::Rotation;
 
 // ---- numbers in a lent buffer: eight bytes each, two's complement, little-endian
@@ -49,7 +48,7 @@ fn store(buffer: &mut [u8], at: usize, v: u64)
 
 // Number k of the buffer becomes v, where it fits whole.
 fn put(buffer: &mut [u8], k: usize, v: u64)
-    requires { ⌜ k < 4 ⌝ }
+    requires { ⌜ k < 4096 ⌝ }
     ensures { λ _. ⌜ now (buffer .exit) ≡ putAt (now (buffer .entry)) k (pos v) ⌝ }
 {
     if 8 * k + 8 <= buffer.len() {
@@ -58,7 +57,7 @@ fn put(buffer: &mut [u8], k: usize, v: u64)
 }
 
 fn put_signed(buffer: &mut [u8], k: usize, v: i64)
-    requires { ⌜ k < 4 ⌝ }
+    requires { ⌜ k < 4096 ⌝ }
     ensures { λ _. ⌜ now (buffer .exit) ≡ putAt (now (buffer .entry)) k v ⌝ }
 {
     put(buffer, k, twos_complement(v));
@@ -98,12 +97,4 @@ pub fn put_located(answer: &mut [u8], p: Located)
     put(answer, 0, p.face);
     put_signed(answer, 1, p.column);
     put_signed(answer, 2, p.row);
-}
-
-// ---- the code of a refused call: its number plus 256 times the index
-
-pub fn refusal_code(refused: Refusal) -> u64
-    ensures { λ r. ⌜ r ≡ returnCode (refusal refused) ⌝ }
-{
-    refusals::number(refused) + 256 * refusals::index(refused)
 }

@@ -142,13 +142,9 @@ fn digest_of(bytes: &[u8]) -> u64
 fn corner_sample(shape: Shape, layout: &[u8], bytes: &[u8], face: u64) -> u64
     requires { ⌜ face < 6 ⌝ }
 {
-    if !frame::size_ok(shape.size) {
-        return 0;
-    }
-    if !frame::layout_ok(layout) {
-        return 0;
-    }
-    if !frame::length_ok(shape, bytes.len()) {
+    let size = checks::size_ok(shape.size);
+    let whole = size & checks::layout_ok(layout) & checks::length_ok(shape, bytes.len());
+    if !whole {
         return 0;
     }
     let corner = Place {

@@ -1,12 +1,13 @@
 // Convert: questions 1 to 10 in order, and then every sample of the target.
 ghost use mathlib.Core.Path.{_≡_};
-ghost use mathlib.Core.Bool.{_&&_};
 ghost use lib.ListN.{length};
-ghost use Rattle.cubemap.specs.Checks.{convertSettings, codeOK};
+ghost use Rattle.cubemap.specs.Checks.{convertSettings};
 ghost use Rattle.cubemap.specs.Outcomes.{outcome, convertedBytes, convertAnswer, convertOutcome, convertedMeans};
 ghost use Rattle.cubemap.proofs.ConvertChecks.{settingsAnswer};
 ghost use Rattle.cubemap.proofs.Passed.{ConvertPassed};
+ghost use Rattle.checks.specs.Asking.{checkedMeans};
 ghost use Rattle.conversion.specs.Codes.{conversionOf};
+use checks::Checked;
 use cubemap::Converted;
 use cubemap::Refusal;
 use cubemap::Rotation;
@@ -15,13 +16,6 @@ use resampling::Conversion;
 use resampling::Cube;
 
 // ---- the questions
-
-// Question 4, of both formats and the sampler.
-fn codes_ok(source_format: u64, target_format: u64, sampler: u64) -> bool
-    ensures { λ r. ⌜ r ≡ (codeOK «source_format» && codeOK «target_format» && codeOK sampler) ⌝ }
-{
-    frame::code_ok(source_format) & frame::code_ok(target_format) & frame::code_ok(sampler)
-}
 
 // Questions 1 to 7: what a call names.
 fn settings_answer(
@@ -32,32 +26,37 @@ fn settings_answer(
     source_layout: &[u8],
     target_layout: &[u8],
     rotation: Rotation,
-) -> Converted
-    ensures { λ r. ⌜ convertedMeans r ≡ settingsAnswer
+) -> Checked
+    ensures { λ r. ⌜ checkedMeans r ≡ settingsAnswer
         (convertSettings shape «target_size» «target_format» sampler (now («source_layout» .entry)) (now («target_layout» .entry)) rotation) ⌝ }
 {
-    if !frame::size_ok(shape.size) {
-        return Converted::Refused(Refusal::FaceSize);
-    }
-    if !frame::size_ok(target_size) {
-        return Converted::Refused(Refusal::TargetSize);
-    }
-    if !frame::depth_ok(shape.depth) {
-        return Converted::Refused(Refusal::Depth);
-    }
-    if !codes_ok(shape.format, target_format, sampler) {
-        return Converted::Refused(Refusal::Code);
-    }
-    if !frame::layouts_ok(source_layout, target_layout) {
-        return Converted::Refused(Refusal::Layout);
-    }
-    if !rotation::in_range(rotation) {
-        return Converted::Refused(Refusal::RotationRange);
-    }
-    if !rotation::nonzero(rotation) {
-        return Converted::Refused(Refusal::RotationZero);
-    }
-    Converted::Accepted
+    let a1 = checks::ask(
+        Checked::Accepted,
+        checks::size_ok(shape.size),
+        Refusal::FaceSize,
+    );
+    let a2 = checks::ask(a1, checks::size_ok(target_size), Refusal::TargetSize);
+    let a3 = checks::ask(a2, checks::depth_ok(shape.depth), Refusal::Depth);
+    let a4 = checks::ask(
+        a3,
+        checks::codes_ok(shape.format, target_format, sampler),
+        Refusal::Code,
+    );
+    let a5 = checks::ask(
+        a4,
+        checks::layouts_ok(source_layout, target_layout),
+        Refusal::Layout,
+    );
+    let a6 = checks::ask(
+        a5,
+        checks::rotation_in_range(rotation),
+        Refusal::RotationRange,
+    );
+    checks::ask(
+        a6,
+        checks::rotation_nonzero(rotation),
+        Refusal::RotationZero,
+    )
 }
 
 // Questions 1 to 10, in order.
@@ -71,12 +70,12 @@ fn convert_answer(
     rotation: Rotation,
     source: &[u8],
     target_length: usize,
-) -> Converted
-    ensures { λ r. ⌜ convertedMeans r ≡ convertAnswer
+) -> Checked
+    ensures { λ r. ⌜ checkedMeans r ≡ convertAnswer
         (convertSettings shape «target_size» «target_format» sampler (now («source_layout» .entry)) (now («target_layout» .entry)) rotation)
         (length (now (source .entry))) «target_length» (now (source .entry)) ⌝ }
 {
-    let settings = settings_answer(
+    let a7 = settings_answer(
         shape,
         target_size,
         target_format,
@@ -85,28 +84,22 @@ fn convert_answer(
         target_layout,
         rotation,
     );
-    match settings {
-        Converted::Refused(refused) => {
-            return Converted::Refused(refused);
-        }
-        Converted::Accepted => {}
-    }
     let target = Shape {
         size: target_size,
         depth: shape.depth,
         format: target_format,
     };
-    if !frame::length_ok(shape, source.len()) {
-        return Converted::Refused(Refusal::FirstLength);
-    }
-    if !frame::length_ok(target, target_length) {
-        return Converted::Refused(Refusal::SecondLength);
-    }
-    if !frame::samples_ok(shape, source) {
-        let index = frame::lowest_beyond(shape, source) as u32;
-        return Converted::Refused(Refusal::FirstSample(index));
-    }
-    Converted::Accepted
+    let a8 = checks::ask(
+        a7,
+        checks::length_ok(shape, source.len()),
+        Refusal::FirstLength,
+    );
+    let a9 = checks::ask(
+        a8,
+        checks::length_ok(target, target_length),
+        Refusal::SecondLength,
+    );
+    checks::ask_first_samples(a9, shape, source)
 }
 
 // ---- the frames
@@ -203,8 +196,8 @@ pub fn convert(
         target.len(),
     );
     match answer {
-        Converted::Refused(refused) => Converted::Refused(refused),
-        Converted::Accepted => {
+        Checked::Refused(refused) => Converted::Refused(refused),
+        Checked::Accepted => {
             convert_frame(
                 shape,
                 target_size,

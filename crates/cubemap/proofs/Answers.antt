@@ -1,6 +1,6 @@
 -- How an answer comes out of a C call: two's complement, numbers in a lent buffer, and what a call gives by its result.
 use mathlib.Core.Path.{_≡_, refl, sym, _∙_, ap, subst}
-use mathlib.Core.Bool.{true, false, cond}
+use mathlib.Core.Bool.{true, false}
 use mathlib.Core.List.{List, [], _∷_, _++_}
 use Prim.Native.Nat.{ℕ, suc, _+_, _*_, _-_, _^_, _≤_, _<_}
 use native.Mathlib.Omega.{arith}
@@ -8,12 +8,14 @@ use lib.Dec.{T, eqb, ltb→lt}
 use lib.ListN.{length, take, drop}
 use lib.IntN.{ℤ, pos, negsuc, natAbs}
 use lib.Signed.{ltZ}
-use borrow.Author.Tests.{le-leb, lt-leb}
+use borrow.Author.Tests.{le-leb, lt-leb, ne-eqb}
 use Rattle.arithmetic.proofs.Tests.{passes, fails}
 use Rattle.cubemap.specs.declared.Refusal.{Refusal}
 use Rattle.cubemap.specs.Interface.{Answer, accepted, isAccepted, returnCode, littleEndian, twosComplement, putAt, putAll}
-use Rattle.cubemap.specs.Outcomes.{Result, result, ifAccepted, Outcome, outcome, refusal, refused, written}
+use Rattle.cubemap.specs.Outcomes.{Result, result, Outcome, outcome, refusal, refused, written}
+use Rattle.cubemap.specs.Checks.{between}
 use Rattle.cubemap.specs.Promises.{Gives}
+use Rattle.cubemap.proofs.Passed.{Between, between-is}
 
 -- ---- two's complement
 
@@ -51,29 +53,32 @@ pub put-next : (buffer after : List ℕ) (k : ℕ) (v : ℤ) (vs : List ℤ) →
 unfolding putAll
 put-next buffer after k v vs e = ap (λ b. putAll b (suc k) vs) e
 
--- ---- a refusal is no acceptance
+-- ---- a refusal has the number of a question
 
+numbered : (q : Refusal) → T (between 1 24 (refusal q .number))
+numbered Refusal.FaceSize = tt
+numbered Refusal.TargetSize = tt
+numbered Refusal.Depth = tt
+numbered Refusal.Code = tt
+numbered Refusal.Layout = tt
+numbered Refusal.RotationRange = tt
+numbered Refusal.RotationZero = tt
+numbered Refusal.FirstLength = tt
+numbered Refusal.SecondLength = tt
+numbered (Refusal.FirstSample i) = tt
+numbered (Refusal.SecondSample i) = tt
+numbered Refusal.FoldedRange = tt
+numbered Refusal.RayRange = tt
+numbered Refusal.RayZero = tt
+numbered Refusal.RecordKind = tt
+numbered Refusal.RecordCut = tt
+
+pub refusal-number : (q : Refusal) → Between 1 24 (refusal q .number)
+refusal-number q = between-is 1 24 (refusal q .number) (numbered q)
+
+-- so it is no acceptance
 pub not-accepted : (q : Refusal) → isAccepted (refusal q) ≡ false
-not-accepted Refusal.FaceSize = refl
-not-accepted Refusal.TargetSize = refl
-not-accepted Refusal.Depth = refl
-not-accepted Refusal.Code = refl
-not-accepted Refusal.Layout = refl
-not-accepted Refusal.RotationRange = refl
-not-accepted Refusal.RotationZero = refl
-not-accepted Refusal.FirstLength = refl
-not-accepted Refusal.SecondLength = refl
-not-accepted (Refusal.FirstSample i) = refl
-not-accepted (Refusal.SecondSample i) = refl
-not-accepted Refusal.FoldedRange = refl
-not-accepted Refusal.RayRange = refl
-not-accepted Refusal.RayZero = refl
-not-accepted Refusal.RecordKind = refl
-not-accepted Refusal.RecordCut = refl
-
--- what a call gives where a refusal is the answer
-pub refused-gives : (q : Refusal) {a : Answer} (vs : List ℤ) → refusal q ≡ a → refused q ≡ ifAccepted a vs
-refused-gives q vs e = ap (λ b. result (refusal q) (cond b vs [])) (sym (not-accepted q)) ∙ ap (λ a. ifAccepted a vs) e
+not-accepted q = ne-eqb (refusal q .number) 0 (λ e. omega (arith, refusal-number q .at-least))
 
 -- a call that returns 0 is accepted
 pub returned-0 : (a : Answer) → returnCode a ≡ 0 → T (isAccepted a)

@@ -1,6 +1,6 @@
 -- A sample of `framed` is what was framed; a frame whose bytes are given place by place; and which frames pass checks 8 to 11.
 use mathlib.Core.Path.{_≡_, refl, sym, _∙_, ap, ap₂, subst}
-use mathlib.Core.Bool.{false, not}
+use mathlib.Core.Bool.{Bool, true, false, not}
 use mathlib.Core.List.{List, [], _++_}
 use Prim.Native.Nat.{ℕ, zero, suc, _+_, _*_, _^_, _≤_, _<_}
 use native.Mathlib.Decide.{ℕ-discrete}
@@ -11,7 +11,8 @@ use lib.ListN.{length, length-append, take, drop, getD, List·getD-append}
 use lib.Seq.{getD-take, getD-drop, getD-append-add}
 use Rattle.arithmetic.specs.Searches.{lowest, allBelow}
 use Rattle.arithmetic.proofs.Searches.{all-at, all-of, Lowest, not-all, lowest-none, SameFirst, first-decides}
-use Rattle.arithmetic.proofs.Tests.{same-test}
+use borrow.Author.Tests.{eq-eqb, ne-eqb}
+use Rattle.arithmetic.proofs.Tests.{passes, fails, same-test}
 use Rattle.cubemap.specs.declared.Place.{Place}
 use Rattle.cubemap.specs.declared.Shape.{Shape}
 use Rattle.cubemap.specs.Interface.{littleEndian}
@@ -147,6 +148,14 @@ beyond-none z bytes t = lowest-none (record { bounded = omega arith; each = none
   where
     none : (i : ℕ) → i < samplesIn z → not (sampleOK z bytes i) ≡ false
     none i h = same-test (not (sampleOK z bytes i)) false (λ n. T-not (sampleOK z bytes i) n (all-at (sampleOK z bytes) (samplesIn z) t i h)) (λ f. absurd f)
+
+-- so the index tells whether every sample is within the depth
+pub samples-by-lowest : (z : Shape) (bytes : List ℕ) → eqb (lowestBeyond z bytes) (samplesIn z) ≡ samplesOK z bytes
+samples-by-lowest z bytes = go (samplesOK z bytes) refl
+  where
+    go : (b : Bool) → samplesOK z bytes ≡ b → eqb (lowestBeyond z bytes) (samplesIn z) ≡ b
+    go true e = eq-eqb (lowestBeyond z bytes) (samplesIn z) (beyond-none z bytes (passes e))
+    go false e = ne-eqb (lowestBeyond z bytes) (samplesIn z) (λ d. omega (arith, lowestBeyond-is z bytes (fails e) .below))
 
 -- check 10 looks at no sample behind the lowest one beyond the depth: bytes that have the same samples up to that one pass or fail alike
 pub samples-decide : (k : ℕ) (z : Shape) (one two : List ℕ) → ((i : ℕ) → i ≤ lowestBeyond z one → sampleAt one i ≡ sampleAt two i)

@@ -3,9 +3,9 @@ pub mod Marked
 pub mod Examples
 pub mod Limits
 pub mod Passed
-pub mod LookUps
 pub mod Ranges
 pub mod Answers
+pub mod Results
 pub mod Layouts
 pub mod Indices
 pub mod Framed
@@ -15,7 +15,6 @@ pub mod FaceCoordinates
 pub mod Rotations
 pub mod HeldNumbers
 pub mod Reduction
-pub mod Folds
 pub mod Rounding
 pub mod Positions
 pub mod Faces
@@ -30,6 +29,7 @@ pub mod Regions
 pub mod Conversion
 pub mod Weights
 pub mod Scores
+pub mod Alignment
 pub mod Records
 pub mod Decimals
 pub mod Listings

@@ -127,8 +127,8 @@ line-length k b = go (isWhole b) (isRayRecord b) refl refl
 
     go : (w r : Bool) → isWhole b ≡ w → isRayRecord b ≡ r → 5 * length (line k (recordResult b)) ≤ 5 * length (decimal (pos k)) + 54 + recordLength b
     go false r ew er = refusal-line Refusal.RecordCut (omega arith) (record-cut b ew)
-    go true false ew er = refusal-line Refusal.RecordKind (omega arith) (record-kind b (passes ew) er)
-    go true true ew er = rw (record-ray b (passes ew) (passes er))
+    go true false ew er = refusal-line Refusal.RecordKind (omega arith) (record-kind b ew er)
+    go true true ew er = rw (record-ray b ew er)
         (omega (arith, looked-up-length k (recordSize b) (recordFormat b) (recordRay b), ray-record-length b (passes er)))
 
 -- ---- all lines

@@ -1,5 +1,5 @@
 -- What an accepted call has passed: each list of checks inverted once, into a record with named fields.
-use mathlib.Core.Path.{_≡_, refl, sym, _∙_, ap}
+use mathlib.Core.Path.{_≡_, refl}
 use mathlib.Core.Bool.{Bool, true, false, _&&_, not, cond}
 use mathlib.Core.List.{List, [], _∷_, _++_}
 use Prim.Native.Nat.{ℕ, _^_, _≤_}
@@ -7,20 +7,22 @@ use native.Mathlib.Nat.{pow-le-pow-right}
 use native.Mathlib.Omega.{arith}
 use lib.Dec.{T, eqb, leb, leb→le, T-not}
 use lib.ListN.{length}
-use borrow.Author.Tests.{not-true}
-use Rattle.arithmetic.proofs.Tests.{not-refused, and-left, and-right, and-both, All3, and3, all3, cond-true, cond-both}
+use Rattle.arithmetic.proofs.Tests.{and-left, and-right, and-both, All3, and3, all3, cond-both}
 use Rattle.cubemap.specs.declared.Ray.{Ray}
-use Rattle.cubemap.specs.Interface.{Answer, answer, accepted, isAccepted}
+use Rattle.cubemap.specs.declared.Rotation.{Rotation}
+use Rattle.cubemap.specs.Interface.{answer, accepted, isAccepted}
 use Rattle.cubemap.specs.Checks.{ConvertSettings, ScoreSettings, targetShape, Check, firstFailed, between, sizeOK, depthOK, codeOK}
 use Rattle.cubemap.specs.Checks.{layoutOK, rotationInRange, rotationNonzero, lengthOK, samplesOK, rayInRange, rayNonzero}
-use Rattle.cubemap.specs.Checks.{sizeChecks, settingChecks, lengthChecks, beforeSamples, convertChecks, scoreChecks, lookUpChecks}
+use Rattle.cubemap.specs.Checks.{sizeChecks, settingChecks, lengthChecks, beforeSamples, convertChecks, scoreChecks, equalChecks, lookUpChecks}
 use Rattle.cubemap.specs.Outcomes.{convertAnswer}
 
 -- ---- lists of checks
 
-abbrev pub AllHold : List Check → Type 0
-AllHold [] = Unit {0}
-AllHold (c ∷ cs) = T (c .holds) × AllHold cs
+infixr 4 _also_
+-- each of them holds
+pub data AllHold : List Check → Type 0 where
+  none : AllHold []
+  _also_ : {c : Check} {cs : List Check} → T (c .holds) → AllHold cs → AllHold (c ∷ cs)
 
 -- no check has the number 0
 abbrev pub numbered : List Check → Bool
@@ -30,19 +32,19 @@ numbered (c ∷ cs) = not (eqb (c .number) 0) && numbered cs
 -- an accepted call has passed each check
 pub all-hold : (cs : List Check) → T (numbered cs) → T (isAccepted (firstFailed cs)) → AllHold cs
 unfolding firstFailed
-all-hold [] n t = tt
+all-hold [] n t = none
 all-hold (c ∷ cs) n t = go (c .holds) t (λ u. all-hold cs (and-right (not (eqb (c .number) 0)) (numbered cs) n) u)
   where
     go : (b : Bool) → T (isAccepted (cond b (firstFailed cs) (answer (c .number) (c .index)))) → (T (isAccepted (firstFailed cs)) → AllHold cs)
-        → T b × AllHold cs
-    go true t ih = (tt, ih t)
+        → AllHold (record { holds = b; number = c .number; index = c .index } ∷ cs)
+    go true t ih = tt also ih t
     go false t ih = absurd (T-not (eqb (c .number) 0) (and-left (not (eqb (c .number) 0)) (numbered cs) n) t)
 
 -- and a call that passes each check is accepted, with index 0
 pub holding : (cs : List Check) → AllHold cs → firstFailed cs ≡ accepted
 unfolding firstFailed
-holding [] h = refl
-holding (c ∷ cs) h = go (c .holds) (h .0) (holding cs (h .1))
+holding [] none = refl
+holding (c ∷ cs) (t also h) = go (c .holds) t (holding cs h)
   where
     go : (b : Bool) → T b → firstFailed cs ≡ accepted → cond b (firstFailed cs) (answer (c .number) (c .index)) ≡ accepted
     go true t ih = ih
@@ -66,34 +68,6 @@ failed-number n (c ∷ cs) t =
     (λ h. ih)
     (λ f. leb→le (c .number) n (and-left (leb (c .number) n) (numberedUpTo n cs) t))
 
--- the first that fails, where those in front of it hold
-pub failing : (front : List Check) (c : Check) (rest : List Check) → AllHold front → c .holds ≡ false
-    → firstFailed (front ++ (c ∷ rest)) ≡ answer (c .number) (c .index)
-unfolding firstFailed
-failing [] c rest h e = ap (λ b. cond b (firstFailed rest) (answer (c .number) (c .index))) e
-failing (d ∷ front) c rest h e =
-    cond-true (d .holds) (firstFailed (front ++ (c ∷ rest))) (answer (d .number) (d .index)) (h .0) ∙ failing front c rest (h .1) e
-
--- the checks that remain: those in front of them hold, so these decide the answer
-pub record Remaining (cs : List Check) (a : Answer) : Type 0 where
-  pub decide : firstFailed cs ≡ a
-
--- the next of them is asked, and answered r: where it holds, those behind it remain, and where it fails, it decides
-module _ {c : Check} {rest : List Check} {a : Answer} {r : Bool} (left : Remaining (c ∷ rest) a) (e : r ≡ c .holds) where
-  pub next-holds : not r ≡ false → Remaining rest a
-  unfolding firstFailed
-  next-holds h = record {
-    decide = sym (cond-true (c .holds) (firstFailed rest) (answer (c .number) (c .index)) (not-refused e h)) ∙ left .decide;
-  }
-
-  pub next-fails : not r ≡ true → answer (c .number) (c .index) ≡ a
-  next-fails h = sym (failing [] c rest tt (sym e ∙ not-true r h)) ∙ left .decide
-
--- no check remains
-pub none-fails : {a : Answer} → Remaining [] a → accepted ≡ a
-unfolding firstFailed
-none-fails left = left .decide
-
 -- checks in front of others: the first that fails of them, else that of the others
 pub firstFailed-append : (xs ys : List Check) → T (numbered xs)
     → firstFailed (xs ++ ys) ≡ cond (isAccepted (firstFailed xs)) (firstFailed ys) (firstFailed xs)
@@ -112,13 +86,29 @@ firstFailed-append (c ∷ xs) ys n = go (c .holds) (firstFailed-append xs ys (an
     go true ih = ih
     go false ih = refused (eqb (c .number) 0) (and-left (not (eqb (c .number) 0)) (numbered xs) n)
 
+pub numbered-append : (xs ys : List Check) → T (numbered xs) → T (numbered ys) → T (numbered (xs ++ ys))
+numbered-append [] ys n m = m
+numbered-append (c ∷ xs) ys n m =
+    let first = not (eqb (c .number) 0) in
+    and-both first (numbered (xs ++ ys)) (and-left first (numbered xs) n) (numbered-append xs ys (and-right first (numbered xs) n) m)
+
+-- what the check of number n asks; nothing where there is none
+abbrev pub askedBy : ℕ → List Check → Bool
+askedBy n [] = true
+askedBy n (c ∷ cs) = cond (eqb (c .number) n) (c .holds) (askedBy n cs)
+
+-- and it holds where each one does: so what a call has passed is found by its number, wherever the check stands
+pub held : (n : ℕ) (cs : List Check) → AllHold cs → T (askedBy n cs)
+held n [] none = tt
+held n (c ∷ cs) (t also h) = cond-both T (eqb (c .number) n) (c .holds) (askedBy n cs) (λ _. t) (λ _. held n cs h)
+
 -- ---- a number between two others
 
 pub record Between (low high x : ℕ) : Type 0 where
   pub at-least : low ≤ x
   pub at-most : x ≤ high
 
-between-is : (low high x : ℕ) → T (between low high x) → Between low high x
+pub between-is : (low high x : ℕ) → T (between low high x) → Between low high x
 between-is low high x t = record {
   at-least = leb→le low x (and-left (leb low x) (leb x high) t);
   at-most = leb→le x high (and-right (leb low x) (leb x high) t);
@@ -169,53 +159,43 @@ pub record ConvertPassed (s : ConvertSettings) (sourceLength targetLength : ℕ)
 
 pub convert-passed : (s : ConvertSettings) (n m : ℕ) (source : List ℕ) → T (isAccepted (convertAnswer s n m source)) → ConvertPassed s n m source
 unfolding convertAnswer convertChecks beforeSamples sizeChecks settingChecks lengthChecks
-convert-passed s n m source t = go (all-hold (convertChecks s n m source) tt t)
+convert-passed s n m source t = record {
+  source-size = passed 1;
+  target-size = passed 2;
+  depth = passed 3;
+  source-format = codes .first;
+  target-format = codes .second;
+  sampler = codes .third;
+  source-layout = and-left (layoutOK (s .sourceLayout)) (layoutOK (s .targetLayout)) (passed 5);
+  target-layout = and-right (layoutOK (s .sourceLayout)) (layoutOK (s .targetLayout)) (passed 5);
+  rotation-in-range = passed 6;
+  rotation-nonzero = passed 7;
+  source-length = passed 8;
+  target-length = passed 9;
+  samples = passed 10;
+}
   where
-    go : AllHold (convertChecks s n m source) → ConvertPassed s n m source
-    go (q1, (q2, (q3, (q4, (q5, (q6, (q7, (q8, (q9, (q10, end)))))))))) = record {
-      source-size = q1;
-      target-size = q2;
-      depth = q3;
-      source-format = codes .first;
-      target-format = codes .second;
-      sampler = codes .third;
-      source-layout = and-left (layoutOK (s .sourceLayout)) (layoutOK (s .targetLayout)) q5;
-      target-layout = and-right (layoutOK (s .sourceLayout)) (layoutOK (s .targetLayout)) q5;
-      rotation-in-range = q6;
-      rotation-nonzero = q7;
-      source-length = q8;
-      target-length = q9;
-      samples = q10;
-    }
-      where
-        codes : All3 (codeOK (s .sourceShape .format)) (codeOK (s .targetFormat)) (codeOK (s .sampler))
-        codes = and3 (codeOK (s .sourceShape .format)) (codeOK (s .targetFormat)) (codeOK (s .sampler)) q4
+    passed : (k : ℕ) → T (askedBy k (convertChecks s n m source))
+    passed k = held k (convertChecks s n m source) (all-hold (convertChecks s n m source) tt t)
+
+    codes : All3 (codeOK (s .sourceShape .format)) (codeOK (s .targetFormat)) (codeOK (s .sampler))
+    codes = and3 (codeOK (s .sourceShape .format)) (codeOK (s .targetFormat)) (codeOK (s .sampler)) (passed 4)
 
 -- and a call that has passed each check is accepted
 pub convert-accepted : (s : ConvertSettings) (n m : ℕ) (source : List ℕ) → ConvertPassed s n m source → convertAnswer s n m source ≡ accepted
 unfolding convertAnswer convertChecks beforeSamples sizeChecks settingChecks lengthChecks
-convert-accepted s n m source p = holding (convertChecks s n m source) (
-  p .source-size,
-  (
-    p .target-size,
-    (
-      p .depth,
-      (
-        codes,
-        (
-          layouts,
-          (p .rotation-in-range, (p .rotation-nonzero, (p .source-length, (p .target-length, (p .samples, tt))))),
-        ),
-      ),
-    ),
-  ),
-)
-  where
-    codes : T (codeOK (s .sourceShape .format) && codeOK (s .targetFormat) && codeOK (s .sampler))
-    codes = all3 (codeOK (s .sourceShape .format)) (codeOK (s .targetFormat)) (codeOK (s .sampler)) (p .source-format) (p .target-format) (p .sampler)
-
-    layouts : T (layoutOK (s .sourceLayout) && layoutOK (s .targetLayout))
-    layouts = and-both (layoutOK (s .sourceLayout)) (layoutOK (s .targetLayout)) (p .source-layout) (p .target-layout)
+convert-accepted s n m source p = holding (convertChecks s n m source)
+    (p .source-size
+    also p .target-size
+    also p .depth
+    also all3 (codeOK (s .sourceShape .format)) (codeOK (s .targetFormat)) (codeOK (s .sampler)) (p .source-format) (p .target-format) (p .sampler)
+    also and-both (layoutOK (s .sourceLayout)) (layoutOK (s .targetLayout)) (p .source-layout) (p .target-layout)
+    also p .rotation-in-range
+    also p .rotation-nonzero
+    also p .source-length
+    also p .target-length
+    also p .samples
+    also none)
 
 -- ---- score
 
@@ -233,20 +213,36 @@ pub record ScorePassed (s : ScoreSettings) (first second : List ℕ) : Type 0 wh
 pub score-passed : (s : ScoreSettings) (first second : List ℕ) → T (isAccepted (firstFailed (scoreChecks s first second)))
     → ScorePassed s first second
 unfolding scoreChecks
-score-passed s first second t = go (all-hold (scoreChecks s first second) tt t)
+score-passed s first second t = record {
+  size = passed 1;
+  depth = passed 3;
+  format = passed 4;
+  first-layout = and-left (layoutOK (s .firstLayout)) (layoutOK (s .secondLayout)) (passed 5);
+  second-layout = and-right (layoutOK (s .firstLayout)) (layoutOK (s .secondLayout)) (passed 5);
+  first-length = passed 8;
+  second-length = passed 9;
+  first-samples = passed 10;
+  second-samples = passed 11;
+}
   where
-    go : AllHold (scoreChecks s first second) → ScorePassed s first second
-    go (q1, (q3, (q4, (q5, (q8, (q9, (q10, (q11, end)))))))) = record {
-      size = q1;
-      depth = q3;
-      format = q4;
-      first-layout = and-left (layoutOK (s .firstLayout)) (layoutOK (s .secondLayout)) q5;
-      second-layout = and-right (layoutOK (s .firstLayout)) (layoutOK (s .secondLayout)) q5;
-      first-length = q8;
-      second-length = q9;
-      first-samples = q10;
-      second-samples = q11;
-    }
+    passed : (k : ℕ) → T (askedBy k (scoreChecks s first second))
+    passed k = held k (scoreChecks s first second) (all-hold (scoreChecks s first second) tt t)
+
+-- ---- fold and equality
+
+pub record EqualPassed (a b : Rotation) : Type 0 where
+  pub first-in-range : T (rotationInRange a)
+  pub second-in-range : T (rotationInRange b)
+
+pub equal-passed : (a b : Rotation) → T (isAccepted (firstFailed (equalChecks a b))) → EqualPassed a b
+unfolding equalChecks
+equal-passed a b t = record {
+  first-in-range = and-left (rotationInRange a) (rotationInRange b) (passed 6);
+  second-in-range = and-right (rotationInRange a) (rotationInRange b) (passed 6);
+}
+  where
+    passed : (k : ℕ) → T (askedBy k (equalChecks a b))
+    passed k = held k (equalChecks a b) (all-hold (equalChecks a b) tt t)
 
 -- ---- look-up
 
@@ -259,14 +255,14 @@ pub record LookUpPassed (A format : ℕ) (v : Ray) : Type 0 where
 -- these four are all that a look-up asks
 pub look-up-accepted : (A format : ℕ) (v : Ray) → LookUpPassed A format v → firstFailed (lookUpChecks A format v) ≡ accepted
 unfolding lookUpChecks
-look-up-accepted A format v p = holding (lookUpChecks A format v) (p .size, (p .format-code, (p .in-range, (p .nonzero, tt))))
+look-up-accepted A format v p = holding (lookUpChecks A format v) (p .size also p .format-code also p .in-range also p .nonzero also none)
 
 pub look-up-passed : (A format : ℕ) (v : Ray) → T (isAccepted (firstFailed (lookUpChecks A format v))) → LookUpPassed A format v
 unfolding lookUpChecks
-look-up-passed A format v t = go (all-hold (lookUpChecks A format v) tt t)
+look-up-passed A format v t = record { size = passed 1; format-code = passed 4; in-range = passed 13; nonzero = passed 14 }
   where
-    go : AllHold (lookUpChecks A format v) → LookUpPassed A format v
-    go (q1, (q4, (q13, (q14, end)))) = record { size = q1; format-code = q4; in-range = q13; nonzero = q14 }
+    passed : (k : ℕ) → T (askedBy k (lookUpChecks A format v))
+    passed k = held k (lookUpChecks A format v) (all-hold (lookUpChecks A format v) tt t)
 
 pub look-up-number : (A format : ℕ) (v : Ray) → firstFailed (lookUpChecks A format v) .number ≤ 16
 unfolding lookUpChecks

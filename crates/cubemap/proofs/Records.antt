@@ -1,7 +1,7 @@
 -- Records of the listing: when one is whole and of the ray's kind, what it comes to at each exit, and how far the next one is.
 use mathlib.Core.Path.{_≡_, refl, sym, _∙_, ap}
 use mathlib.Core.Bool.{true, false, _&&_, cond}
-use mathlib.Core.List.{List, [], _∷_}
+use mathlib.Core.List.{List, []}
 use Prim.Native.Nat.{ℕ, suc, _+_, _-_, _*_, _^_, _≤_, _<_}
 use native.Mathlib.Nat.{le-refl}
 use native.Mathlib.Omega.{arith}
@@ -12,11 +12,12 @@ use borrow.Author.Tests.{lt-leb, le-leb, lt-ltb, le-ltb}
 use Rattle.arithmetic.proofs.Sizes.{Difference, below, above, difference-cases}
 use Rattle.arithmetic.proofs.Tests.{and-left, and-right, cond-both}
 use Rattle.cubemap.specs.declared.Refusal.{Refusal}
-use Rattle.cubemap.specs.Checks.{check}
-use Rattle.cubemap.specs.Outcomes.{refused, lookUpResult}
+use Rattle.cubemap.specs.Interface.{accepted, isAccepted}
+use Rattle.cubemap.specs.Checks.{firstFailed}
+use Rattle.cubemap.specs.Outcomes.{result, refusal, refused, lookUpResult}
 use Rattle.cubemap.specs.Listing.{readFrom, signed32, kind, bodyLength, recordLength, recordFormat, recordSize, recordRay}
 use Rattle.cubemap.specs.Listing.{isWhole, isRayRecord, recordChecks, recordResult}
-use Rattle.cubemap.proofs.Passed.{failing, holding}
+use Rattle.cubemap.proofs.Answers.{not-accepted}
 
 -- ---- numbers
 
@@ -71,17 +72,29 @@ module _ (b : List ℕ) where
 
   -- ---- what a record comes to
 
+  -- by its two checks
   pub record-cut : isWhole b ≡ false → recordResult b ≡ refused Refusal.RecordCut
-  unfolding recordResult recordChecks
-  record-cut e = rw (failing [] (check 16 (isWhole b)) (check 15 (isRayRecord b) ∷ []) tt e)
+  unfolding recordResult recordChecks firstFailed
+  record-cut w = rw w
 
-  pub record-kind : T (isWhole b) → isRayRecord b ≡ false → recordResult b ≡ refused Refusal.RecordKind
-  unfolding recordResult recordChecks
-  record-kind w e = rw (failing (check 16 (isWhole b) ∷ []) (check 15 (isRayRecord b)) [] (w, tt) e)
+  pub record-kind : isWhole b ≡ true → isRayRecord b ≡ false → recordResult b ≡ refused Refusal.RecordKind
+  unfolding recordResult recordChecks firstFailed
+  record-kind w r = rw (w, r)
 
-  pub record-ray : T (isWhole b) → T (isRayRecord b) → recordResult b ≡ lookUpResult (recordSize b) (recordFormat b) (recordRay b)
-  unfolding recordResult recordChecks
-  record-ray w r = rw (holding (recordChecks b) (w, (r, tt)))
+  pub record-ray : isWhole b ≡ true → isRayRecord b ≡ true → recordResult b ≡ lookUpResult (recordSize b) (recordFormat b) (recordRay b)
+  unfolding recordResult recordChecks firstFailed
+  record-ray w r = rw (w, r)
+
+  -- by the answer that they come to
+  pub record-refused : (q : Refusal) → refusal q ≡ firstFailed (recordChecks b) → refused q ≡ recordResult b
+  unfolding recordResult
+  record-refused q e =
+      ap (λ c. cond c (lookUpResult (recordSize b) (recordFormat b) (recordRay b)) (refused q)) (sym (not-accepted q))
+      ∙ ap (λ a. cond (isAccepted a) (lookUpResult (recordSize b) (recordFormat b) (recordRay b)) (result a [])) e
+
+  pub record-accepted : accepted ≡ firstFailed (recordChecks b) → lookUpResult (recordSize b) (recordFormat b) (recordRay b) ≡ recordResult b
+  unfolding recordResult
+  record-accepted e = ap (λ a. cond (isAccepted a) (lookUpResult (recordSize b) (recordFormat b) (recordRay b)) (result a [])) e
 
   -- ---- the next record: "is passed over by its length"; where this one is not whole, "the run ends there"
 

@@ -1,29 +1,22 @@
--- A score: its sums row by row and how large they are, its checks one by one, and its result by the answer. And what it depends on: of each frame what the checks see, and the
--- error sum, which stays where both frames' samples move alike to places of the same weight.
-use mathlib.Core.Path.{_≡_, refl, _∙_, ap, ap₂, subst}
-use mathlib.Core.Bool.{Bool, true, false, _&&_, cond}
-use mathlib.Core.List.{List, [], _∷_}
+-- A score: its sums row by row, and how large they are. And what it depends on: of each frame what the checks see, and
+-- the error sum, which stays where both frames' samples move alike to places of the same weight.
+use mathlib.Core.Path.{_≡_, refl, _∙_, ap₂}
+use mathlib.Core.List.{List}
 use Prim.Native.Nat.{ℕ, _*_, _^_, _≤_, _<_}
 use native.Mathlib.Nat.{mul-le-mul}
 use native.Mathlib.Omega.{arith}
-use lib.Dec.{T}
 use lib.ListN.{length}
 use Rattle.arithmetic.specs.Sums.{sumBelow}
 use Rattle.arithmetic.proofs.Sizes.{difference-small}
 use Rattle.arithmetic.proofs.Sums.{sum-swap, sum-same}
-use Rattle.arithmetic.proofs.Tests.{cond-both}
 use Rattle.cubemap.specs.declared.Format.{Format}
 use Rattle.cubemap.specs.declared.Place.{Place}
-use Rattle.cubemap.specs.declared.Refusal.{Refusal}
 use Rattle.cubemap.specs.declared.Shape.{Shape}
-use Rattle.cubemap.specs.Interface.{formatOf, Answer, accepted, isAccepted}
-use Rattle.cubemap.specs.Frames.{place, IsPlace, planeSamples, sampleAtPlace}
+use Rattle.cubemap.specs.Frames.{place, IsPlace, planeSamples}
 use Rattle.cubemap.specs.Score.{weight, difference, squaredDifference, overPlaces, errorSum, weightSum}
-use Rattle.cubemap.specs.Checks.{ScoreSettings, scoreSettings, Check, check, samplesCheck, firstFailed, sizeOK, depthOK, codeOK, layoutOK, lengthOK}
-use Rattle.cubemap.specs.Checks.{samplesOK, lowestBeyond, scoreChecks}
-use Rattle.cubemap.specs.Outcomes.{result, refusal, refused, ifAccepted, scoreValues, scoreResult}
-use Rattle.cubemap.proofs.Answers.{refused-gives}
-use Rattle.cubemap.proofs.Passed.{Remaining, ScorePassed, score-passed}
+use Rattle.cubemap.specs.Checks.{scoreSettings, layoutOK, lengthOK, samplesOK, lowestBeyond, scoreChecks}
+use Rattle.cubemap.specs.Outcomes.{scoreResult}
+use Rattle.cubemap.proofs.Results.{errorsOf}
 use Rattle.cubemap.proofs.Places.{OneToOne, same-places, over-cong, over-step, over-bounded, over-least}
 use Rattle.cubemap.proofs.Weights.{Level, weight-symmetric, weight-most, weight-least}
 
@@ -92,84 +85,6 @@ pub error-cong : (format : Format) (A : ℕ) (first second first′ second′ : 
     → ((P : Place) → IsPlace A P → second′ P ≡ second P) → errorSum format A first′ second′ ≡ errorSum format A first second
 error-cong format A = error-moved format A (λ P. P) (λ Q. Q) (same-places A) (λ P p w s. refl)
 
--- ---- the error sum with columns and rows exchanged on some faces
-
--- the place with column and row exchanged, but on the faces that are kept
-abbrev pub exchangedOn : (ℕ → Bool) → Place → Place
-exchangedOn keep P = cond (keep (P .face)) P (place (P .face) (P .row) (P .column))
-
-module _ (A : ℕ) (keep : ℕ → Bool) where
-  exchanged-ok : (P : Place) → IsPlace A P → IsPlace A (exchangedOn keep P)
-  exchanged-ok P p = cond-both (IsPlace A) (keep (P .face)) P (place (P .face) (P .row) (P .column))
-      (λ t. p) (λ t. record { face-ok = p .face-ok; column-ok = p .row-ok; row-ok = p .column-ok })
-
-  exchanged-twice : (P : Place) → exchangedOn keep (exchangedOn keep P) ≡ P
-  exchanged-twice P = go (keep (P .face)) refl
-    where
-      go : (b : Bool) → keep (P .face) ≡ b → exchangedOn keep (cond b P (place (P .face) (P .row) (P .column))) ≡ P
-      go true e = rw e
-      go false e = rw e
-
-  exchanged-once : OneToOne A (exchangedOn keep) (exchangedOn keep)
-  exchanged-once = record {
-    to-ok = exchanged-ok;
-    back-ok = exchanged-ok;
-    back-to = λ P p. exchanged-twice P;
-    to-back = λ Q q. exchanged-twice Q;
-  }
-
-  exchanged-level : (P : Place) → IsPlace A P → Level A P (exchangedOn keep P)
-  exchanged-level P p w s = go (keep (P .face))
-    where
-      go : (b : Bool) → let Q : Place = cond b P (place (P .face) (P .row) (P .column)) in w (P .column) (P .row) ≡ w (Q .column) (Q .row)
-      go true = refl
-      go false = s .swap (P .column) (P .row)
-
-  -- where each frame has at P what it had at the place with column and row exchanged
-  pub error-exchanged : (format : Format) (first second first′ second′ : Place → ℕ)
-      → ((P : Place) → IsPlace A P → first′ P ≡ first (exchangedOn keep P))
-      → ((P : Place) → IsPlace A P → second′ P ≡ second (exchangedOn keep P)) → errorSum format A first′ second′ ≡ errorSum format A first second
-  error-exchanged format = error-moved format A (exchangedOn keep) (exchangedOn keep) exchanged-once exchanged-level
-
--- ---- the checks, and the result by the answer
-
--- the error sum that a call names
-abbrev pub errorsOf : ScoreSettings → List ℕ → List ℕ → ℕ
-errorsOf s x y = errorSum (formatOf (s .shape .format)) (s .shape .size)
-    (sampleAtPlace x (s .shape .size) (s .firstLayout)) (sampleAtPlace y (s .shape .size) (s .secondLayout))
-
-module _ (s : ScoreSettings) (first second : List ℕ) where
-  abbrev pub scoreAnswer : Answer
-  scoreAnswer = firstFailed (scoreChecks s first second)
-
-  abbrev pub checksOfScore : List Check
-  checksOfScore =
-      check 1 (sizeOK (s .shape .size))
-      ∷ check 3 (depthOK (s .shape .depth))
-      ∷ check 4 (codeOK (s .shape .format))
-      ∷ check 5 (layoutOK (s .firstLayout) && layoutOK (s .secondLayout))
-      ∷ check 8 (lengthOK (s .shape) (length first))
-      ∷ check 9 (lengthOK (s .shape) (length second))
-      ∷ samplesCheck 10 (s .shape) first
-      ∷ samplesCheck 11 (s .shape) second
-      ∷ []
-
-  pub score-remain : Remaining checksOfScore scoreAnswer
-  unfolding scoreChecks
-  score-remain = record { decide = refl }
-
-  pub score-refused : (q : Refusal) → refusal q ≡ scoreAnswer → refused q ≡ scoreResult s first second
-  unfolding scoreResult
-  score-refused q e = refused-gives q _ e
-
-  pub score-accepted : accepted ≡ scoreAnswer
-      → result accepted (scoreValues (errorsOf s first second) (weightSum (formatOf (s .shape .format)) (s .shape .size))) ≡ scoreResult s first second
-  unfolding scoreResult
-  score-accepted e = ap (λ a. ifAccepted a (scoreValues (errorsOf s first second) (weightSum (formatOf (s .shape .format)) (s .shape .size)))) e
-
-  pub score-answer-passed : accepted ≡ scoreAnswer → ScorePassed s first second
-  score-answer-passed e = score-passed s first second (subst (λ a. T (isAccepted a)) e tt)
-
 -- ---- two scores with the same result
 
 -- the checks see the same of a frame in the layout L with the bytes x, and of one in the layout L′ with the bytes x′
@@ -183,15 +98,4 @@ pub score-same : {z : Shape} {L L′ M M′ x x′ y y′ : List ℕ} → SameTo
     → errorsOf (scoreSettings z L M) x y ≡ errorsOf (scoreSettings z L′ M′) x′ y′
     → scoreResult (scoreSettings z L M) x y ≡ scoreResult (scoreSettings z L′ M′) x′ y′
 unfolding scoreResult scoreChecks
-score-same {z} a b e = λ i. ifAccepted
-    (firstFailed (
-    check 1 (sizeOK (z .size))
-    ∷ check 3 (depthOK (z .depth))
-    ∷ check 4 (codeOK (z .format))
-    ∷ check 5 (a .layout i && b .layout i)
-    ∷ check 8 (a .long i)
-    ∷ check 9 (b .long i)
-    ∷ record { holds = a .samples i; number = 10; index = a .beyond i }
-    ∷ record { holds = b .samples i; number = 11; index = b .beyond i }
-    ∷ []))
-    (scoreValues (e i) (weightSum (formatOf (z .format)) (z .size)))
+score-same {z} a b e = rw (a .layout, b .layout, a .long, b .long, a .samples, a .beyond, b .samples, b .beyond, e)

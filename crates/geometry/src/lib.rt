@@ -9,14 +9,11 @@ ghost use Rattle.cubemap.specs.PlaceToRay as paper;
 ghost use Rattle.cubemap.specs.RayToPlace.{faceOf};
 ghost use Rattle.cubemap.specs.RayToPlace as toPlace;
 ghost use Rattle.cubemap.specs.Checks.{rayInRange, rayNonzero};
-ghost use Rattle.cubemap.specs.Outcomes.{lookedUpMeans, lookUpResult};
 ghost use Rattle.cubemap.proofs.Curves.{bent};
 ghost use Rattle.cubemap.proofs.Faces.{Row4};
 use cubemap::Format;
 use cubemap::Located;
-use cubemap::LookedUp;
 use cubemap::Ray;
-use cubemap::Refusal;
 
 // N of the ACP curve.
 const N: u64 = 65536;
@@ -231,45 +228,4 @@ pub fn locate(format: Format, size: u64, v: Ray) -> Located
         column: column,
         row: row,
     }
-}
-
-// ---- the call
-
-// Question 13.
-fn in_range(v: Ray) -> bool
-    ensures { λ r. ⌜ r ≡ rayInRange v ⌝ }
-{
-    let sx = arithmetic::within(536870911, v.x);
-    let sy = arithmetic::within(536870911, v.y);
-    let sz = arithmetic::within(536870911, v.z);
-    sx & sy & sz
-}
-
-// Question 14.
-fn nonzero(v: Ray) -> bool
-    ensures { λ r. ⌜ r ≡ rayNonzero v ⌝ }
-{
-    let x = v.x;
-    let y = v.y;
-    let z = v.z;
-    !((x == 0) & (y == 0) & (z == 0))
-}
-
-// Look-up: questions 1, 4, 13 and 14, then where the ray falls.
-pub fn look_up(size: u64, format: u64, v: Ray) -> LookedUp
-    ensures { λ r. ⌜ lookedUpMeans r ≡ lookUpResult size format v ⌝ }
-{
-    if !frame::size_ok(size) {
-        return LookedUp::Refused(Refusal::FaceSize);
-    }
-    if !frame::code_ok(format) {
-        return LookedUp::Refused(Refusal::Code);
-    }
-    if !in_range(v) {
-        return LookedUp::Refused(Refusal::RayRange);
-    }
-    if !nonzero(v) {
-        return LookedUp::Refused(Refusal::RayZero);
-    }
-    LookedUp::At(locate(format_of(format), size, v))
 }

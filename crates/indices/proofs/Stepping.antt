@@ -1,6 +1,5 @@
 -- Base and steps of a face in its slot, turned 0 to 3 times, lead to the index of each of its columns and rows; and steps with columns and rows exchanged.
 use mathlib.Core.Path.{_≡_, refl, sym, _∙_, ap, subst}
-use mathlib.Core.Bool.{Bool, true, false, cond}
 use mathlib.Core.List.{List, [], _∷_}
 use Prim.Native.Nat.{ℕ, _+_, _*_, _-_, _/_, _%_, _^_, _≤_, _<_}
 use native.Mathlib.Nat.{mul-le-mul}
@@ -16,7 +15,6 @@ use Rattle.arithmetic.specs.Integers.{natural}
 use Rattle.arithmetic.proofs.Held.{held}
 use Rattle.arithmetic.proofs.Sizes.{pos-inj, natAbs-neg}
 use Rattle.arithmetic.proofs.Ring.{var, con, _⊕_, _⊗_, ⊖, solve}
-use Rattle.arithmetic.proofs.Tests.{cond-both}
 use Rattle.cubemap.specs.declared.Place.{Place}
 use Rattle.cubemap.specs.declared.Shape.{Shape}
 use Rattle.cubemap.specs.Frames.{place, IsPlace, index, sampleAt, sampleAtPlace}
@@ -25,9 +23,8 @@ use Rattle.cubemap.proofs.Indices.{SpotWithin, quarterTurns-within, no-turn, on
 use Rattle.cubemap.specs.Checks.{depthOK, samplesOK}
 use Rattle.cubemap.proofs.Framed.{samples-number, samples-below}
 use Rattle.cubemap.proofs.Passed.{depth-levels}
-use Rattle.cubemap.proofs.Scores.{exchangedOn}
 use Rattle.indices.specs.declared.FaceSteps.{FaceSteps}
-use Rattle.indices.specs.Steps.{stepped, Lined, Steps, FaceLeads, stepsIn, LeadsTo, exchanged, alongLines, aligned, Aligned}
+use Rattle.indices.specs.Steps.{stepped, Lined, Steps, FaceLeads, stepsIn, LeadsTo, AllLead, exchanged}
 use Rattle.indices.specs.Steps.{Shallow, SteppedFace, SteppedPlane, sampleBySteps, sampleBy}
 
 abbrev pub steps : ℤ → ℤ → ℤ → FaceSteps
@@ -206,7 +203,7 @@ exchanged-stepped : (s : FaceSteps) (m n : ℕ) → stepped (exchanged s) m n �
 exchanged-stepped s m n =
     solve (s .base ∷ pos m ∷ s .down ∷ pos n ∷ s .across ∷ []) (var 0 ⊕ var 1 ⊗ var 2 ⊕ var 3 ⊗ var 4) (var 0 ⊕ var 3 ⊗ var 4 ⊕ var 1 ⊗ var 2) tt
 
-exchanged-leads : {A : ℕ} {s : FaceSteps} → FaceLeads A s → FaceLeads A (exchanged s)
+pub exchanged-leads : {A : ℕ} {s : FaceSteps} → FaceLeads A s → FaceLeads A (exchanged s)
 exchanged-leads {A} {s} l = record {
   base-small = l .base-small;
   across-small = l .down-small;
@@ -228,35 +225,6 @@ exchanged-face p = record { size-most = p .size-most; whole = p .whole; leads = 
 pub exchanged-sample : (plane : List ℕ) (s : FaceSteps) (m n : ℕ) → sampleBySteps plane (exchanged s) m n ≡ sampleBySteps plane s n m
 exchanged-sample plane s m n = ap (λ z. sampleAt plane (natural z)) (exchanged-stepped s m n)
 
-aligned-leads : {A : ℕ} {s : FaceSteps} (g : FaceSteps) → FaceLeads A s → FaceLeads A (aligned g s)
-aligned-leads {A} {s} g l = cond-both (FaceLeads A) (alongLines g) s (exchanged s) (λ t. l) (λ t. exchanged-leads l)
-
--- the faces that are left as they are, by a table
-abbrev pub keeps : List ℤ → ℕ → Bool
-keeps guide f = alongLines (stepsIn guide f)
-
--- what aligned steps read at a place is what the others read at the place with column and row exchanged
-module _ (guide table r : List ℤ) (e : Aligned guide table r) where
-  pub aligned-plane : {A : ℕ} {plane : List ℕ} → SteppedPlane A plane table → SteppedPlane A plane r
-  aligned-plane {A} p = record {
-    size-least = p .size-least;
-    size-most = p .size-most;
-    whole = p .whole;
-    leads = λ f h. subst (FaceLeads A) (sym (e f h)) (aligned-leads (stepsIn guide f) (p .leads f h));
-  }
-
-  pub sample-aligned : (A : ℕ) (plane : List ℕ) (P : Place) → IsPlace A P → sampleBy plane r P ≡ sampleBy plane table (exchangedOn (keeps guide) P)
-  sample-aligned A plane P p =
-      ap (λ s. sampleBySteps plane s (P .column) (P .row)) (e (P .face) (p .face-ok)) ∙ go (keeps guide (P .face))
-    where
-      s : FaceSteps
-      s = stepsIn table (P .face)
-
-      go : (b : Bool) → sampleBySteps plane (cond b s (exchanged s)) (P .column) (P .row)
-          ≡ sampleBy plane table (cond b P (place (P .face) (P .row) (P .column)))
-      go true = refl
-      go false = exchanged-sample plane s (P .column) (P .row)
-
 -- ---- a table that leads to the indices of a layout
 
 module _ (A : ℕ) (L : List ℕ) (table : List ℤ) (t : LeadsTo A L table) where
@@ -264,7 +232,7 @@ module _ (A : ℕ) (L : List ℕ) (table : List ℤ) (t : LeadsTo A L table) whe
   to-index : (f m n : ℕ) → f < 6 → m < A → n < A → natural (stepped (stepsIn table f) m n) ≡ index A L (place f m n)
   to-index f m n h p q = ap natural (t f h .gives m n p q)
 
-  all-lead : (f : ℕ) → f < 6 → FaceLeads A (stepsIn table f)
+  all-lead : AllLead A table
   all-lead f h = steps-cong (λ m n p q. sym (to-index f m n h p q)) (t f h)
 
   pub stepped-plane : {plane : List ℕ} → 1 ≤ A → A ≤ 512 → length plane ≡ 2 * planeSamples A → SteppedPlane A plane table

@@ -2,11 +2,11 @@
 use mathlib.Core.Path.{_≡_}
 use mathlib.Core.Bool.{Bool, cond}
 use mathlib.Core.List.{List}
-use Prim.Native.Nat.{ℕ, _+_, _*_, _≤_, _<_}
-use lib.Dec.{leb}
-use lib.IntN.{ℤ, pos, natAbs, _+ℤ_, _*ℤ_}
+use Prim.Native.Nat.{ℕ, _+_, _*_, _-_, _≤_, _<_}
+use lib.Dec.{eqb}
+use lib.IntN.{ℤ, pos, negℤ, natAbs, _+ℤ_, _*ℤ_}
 use lib.ListN.{length, getD, set}
-use Rattle.arithmetic.specs.Integers.{natural}
+use Rattle.arithmetic.specs.Integers.{natural, isPositive}
 use Rattle.cubemap.specs.declared.Place.{Place}
 use Rattle.cubemap.specs.Frames.{place, planeSamples, index, sampleAt}
 use Rattle.indices.specs.declared.FaceSteps.{FaceSteps}
@@ -49,23 +49,47 @@ withSteps table f s = set (set (set table (f * 3) (s .base)) (f * 3 + 1) (s .acr
 abbrev pub LeadsTo : ℕ → List ℕ → List ℤ → Type 0
 LeadsTo A L table = (f : ℕ) → f < 6 → Steps A (stepsIn table f) (λ m n. index A L (place f m n))
 
--- ---- along the lines of a frame
+-- the steps of each face lead to samples of a plane
+abbrev pub AllLead : ℕ → List ℤ → Type 0
+AllLead A table = (f : ℕ) → f < 6 → FaceLeads A (stepsIn table f)
+
+-- ---- ahead along the lines of a frame
 
 -- columns and rows exchanged
 abbrev pub exchanged : FaceSteps → FaceSteps
 exchanged s = record { base = s .base; across = s .down; down = s .across }
 
+-- the columns of a face of size A in the other order
+abbrev pub mirrored : ℕ → FaceSteps → FaceSteps
+mirrored A s = record { base = s .base +ℤ pos (A - 1) *ℤ s .across; across = negℤ (s .across); down = s .down }
+
 -- does a row of the face run along a line of the frame, by these steps?
-abbrev pub alongLines : FaceSteps → Bool
-alongLines s = leb (natAbs (s .across)) 1
+abbrev pub runsAlong : FaceSteps → Bool
+runsAlong s = eqb (natAbs (s .across)) 1
+
+-- and does it run ahead?
+abbrev pub runsAhead : FaceSteps → Bool
+runsAhead s = isPositive (s .across)
 
 -- the steps s, with columns and rows exchanged where a row by the steps g runs down the frame
-abbrev pub aligned : FaceSteps → FaceSteps → FaceSteps
-aligned g s = cond (alongLines g) s (exchanged s)
+abbrev pub along : FaceSteps → FaceSteps → FaceSteps
+along g s = cond (runsAlong g) s (exchanged s)
+
+-- the steps s, with the columns in the other order where a row by the steps g runs back
+abbrev pub ahead : ℕ → FaceSteps → FaceSteps → FaceSteps
+ahead A g s = cond (runsAhead g) s (mirrored A s)
+
+-- both, one after the other: by its own steps a row then runs ahead along a line
+abbrev pub aligned : ℕ → FaceSteps → FaceSteps → FaceSteps
+aligned A g s = ahead A (along g g) (along g s)
 
 -- a table with the steps of each face so aligned
-abbrev pub Aligned : List ℤ → List ℤ → List ℤ → Type 0
-Aligned guide table r = (f : ℕ) → f < 6 → stepsIn r f ≡ aligned (stepsIn guide f) (stepsIn table f)
+abbrev pub Aligned : ℕ → List ℤ → List ℤ → List ℤ → Type 0
+Aligned A guide table r = (f : ℕ) → f < 6 → stepsIn r f ≡ aligned A (stepsIn guide f) (stepsIn table f)
+
+-- the rows of each face run ahead along the lines of the frame
+abbrev pub RowsAhead : List ℤ → Type 0
+RowsAhead table = (f : ℕ) → f < 6 → stepsIn table f .across ≡ pos 1
 
 -- ---- the bytes of a plane of face size A, and steps to its samples
 
@@ -84,7 +108,7 @@ pub record SteppedPlane (A : ℕ) (plane : List ℕ) (table : List ℤ) : Type 0
   pub size-least : 1 ≤ A
   pub size-most : A ≤ 512
   pub whole : length plane ≡ 2 * planeSamples A
-  pub leads : (f : ℕ) → f < 6 → FaceLeads A (stepsIn table f)
+  pub leads : AllLead A table
 
 -- the sample at a column and a row of a face
 abbrev pub sampleBySteps : List ℕ → FaceSteps → ℕ → ℕ → ℕ

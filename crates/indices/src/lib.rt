@@ -10,7 +10,8 @@ ghost use Rattle.cubemap.specs.Frames.{layoutBytes, spot, quarterTurns, indexIn
 ghost use Rattle.cubemap.specs.Frames as paper;
 ghost use Rattle.cubemap.specs.Checks.{layoutOK};
 ghost use Rattle.indices.specs.Steps as by;
-ghost use Rattle.indices.specs.Steps.{stepped, Lined, Steps, stepsIn, withSteps, LeadsTo, Aligned, SteppedFace, sampleBySteps};
+ghost use Rattle.indices.specs.Steps.{stepped, Lined, Steps, FaceLeads, stepsIn, withSteps, LeadsTo, AllLead};
+ghost use Rattle.indices.specs.Steps.{Aligned, SteppedFace, sampleBySteps};
 use cubemap::Layout;
 use cubemap::Place;
 
@@ -123,26 +124,64 @@ pub fn exchanged(steps: FaceSteps) -> FaceSteps
     }
 }
 
+// The steps with the columns in the other order.
+pub fn mirrored(size: u64, steps: FaceSteps) -> FaceSteps
+    requires { ⌜ (1 ≤ size) × (size ≤ 512) × FaceLeads size steps ⌝ }
+    ensures { λ r. ⌜ r ≡ by.mirrored size steps ⌝ }
+{
+    let base = steps.base;
+    let across = steps.across;
+    let down = steps.down;
+    let last = (size - 1) as i64;
+    FaceSteps {
+        base: base + last * across,
+        across: 0 - across,
+        down: down,
+    }
+}
+
 // The steps, with columns and rows exchanged where a row by the guide's steps runs down the frame.
-fn aligned(guide: FaceSteps, steps: FaceSteps) -> FaceSteps
-    ensures { λ r. ⌜ r ≡ by.aligned guide steps ⌝ }
+fn along(guide: FaceSteps, steps: FaceSteps) -> FaceSteps
+    ensures { λ r. ⌜ r ≡ by.along guide steps ⌝ }
 {
     let across = guide.across;
-    if arithmetic::within(1, across) {
+    if arithmetic::magnitude(across) == 1 {
         steps
     } else {
         exchanged(steps)
     }
 }
 
+// The steps, with the columns in the other order where a row by the guide's steps runs back.
+fn ahead(size: u64, guide: FaceSteps, steps: FaceSteps) -> FaceSteps
+    requires { ⌜ (1 ≤ size) × (size ≤ 512) × FaceLeads size steps ⌝ }
+    ensures { λ r. ⌜ r ≡ by.ahead size guide steps ⌝ }
+{
+    let across = guide.across;
+    if 0 < across {
+        steps
+    } else {
+        mirrored(size, steps)
+    }
+}
+
+// The steps, aligned with those of a guide: a row by the guide's own steps then runs ahead along a line of the frame.
+fn aligned(size: u64, guide: FaceSteps, steps: FaceSteps) -> FaceSteps
+    requires { ⌜ (1 ≤ size) × (size ≤ 512) × FaceLeads size steps ⌝ }
+    ensures { λ r. ⌜ r ≡ by.aligned size guide steps ⌝ }
+{
+    ahead(size, along(guide, guide), along(guide, steps))
+}
+
 // The steps of the six faces, each aligned with those of a guide.
-pub fn aligned_steps(guide: &[i64; 18], table: &[i64; 18]) -> [i64; 18]
-    ensures { λ r. ⌜ Aligned (now (guide .entry)) (now (table .entry)) r ⌝ }
+pub fn aligned_steps(size: u64, guide: &[i64; 18], table: &[i64; 18]) -> [i64; 18]
+    requires { ⌜ (1 ≤ size) × (size ≤ 512) × AllLead size (now table) ⌝ }
+    ensures { λ r. ⌜ Aligned size (now (guide .entry)) (now (table .entry)) r ⌝ }
 {
     let mut result = [0; 18];
     let mut face: u64 = 0;
     while face < 6 {
-        let steps = aligned(steps_at(guide, face), steps_at(table, face));
+        let steps = aligned(size, steps_at(guide, face), steps_at(table, face));
         put_steps(&mut result, face, steps);
         face += 1;
     }

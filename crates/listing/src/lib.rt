@@ -4,12 +4,15 @@ ghost use mathlib.Core.List.{[], _∷_};
 ghost use Prim.Native.Nat.{_+_, _^_, _≤_, _<_};
 ghost use lib.IntN.{pos};
 ghost use lib.ListN.{length};
+ghost use Rattle.cubemap.specs.Checks.{firstFailed};
 ghost use Rattle.cubemap.specs.Outcomes.{lookedUpMeans, lookUpValues, refusal};
 ghost use Rattle.cubemap.specs.Listing as paper;
 ghost use Rattle.cubemap.specs.Promises.{ListingPromise};
 ghost use Rattle.cubemap.proofs.Records.{passed};
 ghost use Rattle.cubemap.proofs.Listings.{behindSpace, refusedText, linesFrom};
+ghost use Rattle.checks.specs.Asking.{checkedMeans};
 ghost use Rattle.listing.specs.Texts.{Put};
+use checks::Checked;
 use cubemap::Located;
 use cubemap::LookedUp;
 use cubemap::Ray;
@@ -60,11 +63,13 @@ fn is_whole(bytes: &[u8]) -> bool
     6 + four_bytes(bytes, 0) <= bytes.len() as u64
 }
 
-// 15: kind 1 with length 15?
+// 15: kind 1 with length 15? Nothing is said where the six leading bytes are cut short.
 fn is_ray_record(bytes: &[u8]) -> bool
-    requires { ⌜ 6 ≤ length (now bytes) ⌝ }
-    ensures { λ r. ⌜ r ≡ paper.isRayRecord (now (bytes .entry)) ⌝ }
+    ensures { λ r. ⌜ (6 ≤ length (now (bytes .entry)) → r ≡ paper.isRayRecord (now (bytes .entry))) ⌝ }
 {
+    if bytes.len() < 6 {
+        return false;
+    }
     (two_bytes(bytes, 4) == 1) & (four_bytes(bytes, 0) == 15)
 }
 
@@ -80,18 +85,29 @@ fn ray_of(bytes: &[u8]) -> Ray
     }
 }
 
-// What a record comes to: 16, which was asked already, 15, then the look-up's questions.
+// 16, which was asked already, and 15.
+fn record_answer(bytes: &[u8], whole: bool) -> Checked
+    requires { ⌜ whole ≡ paper.isWhole (now bytes) ⌝ }
+    ensures { λ r. ⌜ checkedMeans r ≡ firstFailed (paper.recordChecks (now (bytes .entry))) ⌝ }
+{
+    let a16 = checks::ask(Checked::Accepted, whole, Refusal::RecordCut);
+    checks::ask(a16, is_ray_record(bytes), Refusal::RecordKind)
+}
+
+// What a record comes to: its questions, then the look-up's.
 fn result_of(bytes: &[u8], whole: bool) -> LookedUp
     requires { ⌜ whole ≡ paper.isWhole (now bytes) ⌝ }
     ensures { λ r. ⌜ lookedUpMeans r ≡ paper.recordResult (now (bytes .entry)) ⌝ }
 {
-    if !whole {
-        return LookedUp::Refused(Refusal::RecordCut);
+    let answer = record_answer(bytes, whole);
+    match answer {
+        Checked::Refused(refused) => LookedUp::Refused(refused),
+        Checked::Accepted => look_up::look_up(
+            two_bytes(bytes, 7),
+            frame::wide(bytes[6]),
+            ray_of(bytes),
+        ),
     }
-    if !is_ray_record(bytes) {
-        return LookedUp::Refused(Refusal::RecordKind);
-    }
-    geometry::look_up(two_bytes(bytes, 7), frame::wide(bytes[6]), ray_of(bytes))
 }
 
 // How many bytes to pass over: the record, or all that is left where it is not whole.
@@ -190,7 +206,7 @@ fn put_refused(text: &mut [u8], at: usize, refused: Refusal) -> usize
     ensures { λ r. ⌜ Put (now (text .entry)) at (refusedText (refusal refused .number)) r (now (text .exit)) ⌝ }
 {
     let number = put_bytes(text, at, b" refused");
-    let end = put_spaced(text, number, refusals::number(refused));
+    let end = put_spaced(text, number, checks::number(refused));
     put_byte(text, end, b'\n')
 }
 

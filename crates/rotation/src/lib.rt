@@ -5,16 +5,11 @@ ghost use lib.Count.{trailingZeros};
 ghost use lib.Dec.{T};
 ghost use lib.IntN.{natAbs};
 ghost use Rattle.arithmetic.proofs.Divisors.{IsGcd};
-ghost use Rattle.cubemap.specs.Checks.{rotationInRange, rotationNonzero, rayInRange};
-ghost use Rattle.cubemap.specs.Outcomes.{foldedMeans, foldResult, comparedMeans, equalResult};
+ghost use Rattle.cubemap.specs.Checks.{rotationInRange, rayInRange};
 ghost use Rattle.cubemap.specs.Rotations as paper;
-ghost use Rattle.cubemap.proofs.Folds.{bothInRange, bothNonzero};
 ghost use Rattle.cubemap.proofs.Ranges.{Within, RayWithin};
 ghost use Rattle.cubemap.proofs.Rotations.{nextAxis, nextAxisRay};
-use cubemap::Compared;
-use cubemap::Folded;
 use cubemap::Ray;
-use cubemap::Refusal;
 use cubemap::Rotation;
 
 // ---- the three axes, moved round: what holds of the first axis then holds of the next one
@@ -282,7 +277,7 @@ fn reduced(t: Rotation) -> Rotation
 // ---- fold and equality
 
 // The fold of a first and a later rotation.
-fn compose(first: Rotation, later: Rotation) -> Rotation
+pub fn compose(first: Rotation, later: Rotation) -> Rotation
     requires { ⌜ T (rotationInRange first) × T (rotationInRange later) ⌝ }
     ensures { λ r. ⌜ r ≡ paper.compose first later ⌝ }
 {
@@ -305,79 +300,11 @@ fn same_numbers(a: Rotation, b: Rotation) -> bool
 }
 
 // Are the two rotations equal, once reduced?
-fn same_rotation(a: Rotation, b: Rotation) -> bool
+pub fn same_rotation(a: Rotation, b: Rotation) -> bool
     requires { ⌜ T (rotationInRange a) × T (rotationInRange b) ⌝ }
     ensures { λ r. ⌜ r ≡ paper.sameRotation a b ⌝ }
 {
     let u = reduced(a);
     let w = reduced(b);
     same_numbers(u, w)
-}
-
-// ---- the calls
-
-// Question 6, of one rotation.
-pub fn in_range(t: Rotation) -> bool
-    ensures { λ r. ⌜ r ≡ rotationInRange t ⌝ }
-{
-    let s0 = arithmetic::within(31, t.e0);
-    let s1 = arithmetic::within(31, t.e1);
-    let s2 = arithmetic::within(31, t.e2);
-    let s3 = arithmetic::within(31, t.e3);
-    s0 & s1 & s2 & s3
-}
-
-// Question 7, of one rotation.
-pub fn nonzero(t: Rotation) -> bool
-    ensures { λ r. ⌜ r ≡ rotationNonzero t ⌝ }
-{
-    let e0 = t.e0;
-    let e1 = t.e1;
-    let e2 = t.e2;
-    let e3 = t.e3;
-    !((e0 == 0) & (e1 == 0) & (e2 == 0) & (e3 == 0))
-}
-
-// Question 6, of two rotations.
-fn both_in_range(a: Rotation, b: Rotation) -> bool
-    ensures { λ r. ⌜ r ≡ bothInRange a b ⌝ }
-{
-    in_range(a) & in_range(b)
-}
-
-// Question 7, of two rotations.
-fn both_nonzero(a: Rotation, b: Rotation) -> bool
-    ensures { λ r. ⌜ r ≡ bothNonzero a b ⌝ }
-{
-    nonzero(a) & nonzero(b)
-}
-
-// Fold: questions 6, 7 and 12, then the folded rotation.
-pub fn fold(first: Rotation, later: Rotation) -> Folded
-    ensures { λ r. ⌜ foldedMeans r ≡ foldResult first later ⌝ }
-{
-    if !both_in_range(first, later) {
-        return Folded::Refused(Refusal::RotationRange);
-    }
-    if !both_nonzero(first, later) {
-        return Folded::Refused(Refusal::RotationZero);
-    }
-    let t = compose(first, later);
-    if !in_range(t) {
-        return Folded::Refused(Refusal::FoldedRange);
-    }
-    Folded::Composed(t)
-}
-
-// Equality: questions 6 and 7, then whether the two are equal.
-pub fn equal(first: Rotation, second: Rotation) -> Compared
-    ensures { λ r. ⌜ comparedMeans r ≡ equalResult first second ⌝ }
-{
-    if !both_in_range(first, second) {
-        return Compared::Refused(Refusal::RotationRange);
-    }
-    if !both_nonzero(first, second) {
-        return Compared::Refused(Refusal::RotationZero);
-    }
-    Compared::Equal(same_rotation(first, second))
 }

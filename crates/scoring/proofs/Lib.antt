@@ -1,6 +1,2 @@
-mod Planes
-mod Passing
-mod Adding
-mod Unbroken
 mod Summing
 mod Weighing

@@ -61,7 +61,7 @@ pub extern "C" fn welchodrys_convert(
     );
     match converted {
         Converted::Accepted => 0,
-        Converted::Refused(r) => answers::refusal_code(r),
+        Converted::Refused(r) => checks::refusal_code(r),
     }
 }
 
@@ -93,7 +93,7 @@ pub extern "C" fn welchodrys_score(
             answers::put_sums(answer, errors, weights);
             0
         }
-        Scored::Refused(r) => answers::refusal_code(r),
+        Scored::Refused(r) => checks::refusal_code(r),
     }
 }
 
@@ -125,13 +125,13 @@ pub extern "C" fn welchodrys_fold(
         e2: later2,
         e3: later3,
     };
-    let folded = rotation::fold(first, later);
+    let folded = fold::fold(first, later);
     match folded {
         Folded::Composed(t) => {
             answers::put_rotation(answer, t);
             0
         }
-        Folded::Refused(r) => answers::refusal_code(r),
+        Folded::Refused(r) => checks::refusal_code(r),
     }
 }
 
@@ -163,13 +163,13 @@ pub extern "C" fn welchodrys_equal(
         e2: second2,
         e3: second3,
     };
-    let compared = rotation::equal(first, second);
+    let compared = fold::equal(first, second);
     match compared {
         Compared::Equal(equal) => {
             answers::put_equal(answer, equal);
             0
         }
-        Compared::Refused(r) => answers::refusal_code(r),
+        Compared::Refused(r) => checks::refusal_code(r),
     }
 }
 
@@ -186,12 +186,12 @@ pub extern "C" fn welchodrys_look_up(
     ensures { λ r. ⌜ LookUpPromise size format (ray x y z) (now (answer .entry)) r (now (answer .exit)) ⌝ }
 {
     let v = Ray { x: x, y: y, z: z };
-    let looked_up = geometry::look_up(size, format, v);
+    let looked_up = look_up::look_up(size, format, v);
     match looked_up {
         LookedUp::At(p) => {
             answers::put_located(answer, p);
             0
         }
-        LookedUp::Refused(r) => answers::refusal_code(r),
+        LookedUp::Refused(r) => checks::refusal_code(r),
     }
 }

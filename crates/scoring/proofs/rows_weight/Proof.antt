@@ -6,12 +6,11 @@ use lib.ListN.{getD}
 use borrow.Author.Needs.{needs}
 use Rattle.arithmetic.specs.Sums.{sumBelow}
 use Rattle.arithmetic.proofs.Sums.{both-apart, both-same}
-use Rattle.scoring.proofs.Weighing.{entry-most}
 use Rattle.scoring.proofs.rows_weight.Statement.{statement}
 use Rattle.scoring.proofs.rows_weight.Tie as tie
 
 row-weight-requires : tie.Need-row-weight-requires
-row-weight-requires c κs = (c .pre .2, λ m h. entry-most (c .pre .0) (c .pre .1) h)
+row-weight-requires c κs = search needs
 
 add-result : tie.Need-add-result
 add-result c = search needs

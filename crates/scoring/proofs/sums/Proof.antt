@@ -35,7 +35,6 @@ use denote.Triple.Table.{entered, cited}
 use denote.Triple.Walked.{says, needs, Stays, stay-none, stay-none-slice, walkOf, goes-none, goes-none-slice, Walks, ends-at, walked, walk-meets}
 use denote.Exit.{yes}
 use denote.Triple.Clauses.{ensured, lasts}
-use Rattle.cubemap.specs.declared.Format.{Format}
 use Rattle.cubemap.specs.declared.Layout.{Layout}
 use Rattle.cubemap.specs.declared.Scored.{Scored}
 use Rattle.cubemap.specs.declared.Shape.{Shape}
@@ -157,7 +156,7 @@ module _ {M : Type 1} (𝓤 : URA M) (H : Heap 𝓤) (A : Atoms 𝓤) (W : Given
       (qed W ((‵ (flft κ q) ⊛ ‵ (flft κ′ q′) ⊛ ‵ ftrue) ∷ ‵ (Views r r′ u u′) ∷ []) ∵ says ! w $ frame ! $ done !) $ frame ! $ done !
 
   abbrev Found : Scored → FrameView → FrameView → Type 0
-  Found t r r′ = (format : Format) → t ≡ sumsOf format (shown r) (shown r′)
+  Found t r r′ = t ≡ sumsOf (shown r) (shown r′)
 
   sums-said : (r r′ : FrameView) (t : Scored)
       → ent 𝓤 (ensured 𝓤 H A of-views.ended (of-views.clauses 𝓤 H A mem run) κs (r, (r′, tt)) tt t) (fact 𝓤 (Found t r r′))

@@ -42,7 +42,6 @@ use denote.Triple.Table.{entered, cited}
 use denote.Triple.Walked.{says, needs, Stays, stay-none, walkOf, goes-none, Walks, ends-at, walked, walk-meets}
 use denote.Exit.{yes}
 use denote.Triple.Clauses.{ensured, lasts}
-use Rattle.cubemap.specs.declared.Format.{Format}
 use Rattle.cubemap.specs.declared.Layout.{Layout}
 use Rattle.cubemap.specs.declared.Scored.{Scored}
 use Rattle.cubemap.specs.declared.Shape.{Shape}
@@ -147,7 +146,7 @@ module _ {M : Type 1} (𝓤 : URA M) (H : Heap 𝓤) (A : Atoms 𝓤) (W : Given
   reshaped = frameOf (d .shape) (e .layout) (now (e .bytes))
 
   abbrev Found : Scored → Frame → Type 0
-  Found r G = (format : Format) → r ≡ sumsOf format (shown d) G
+  Found r G = r ≡ sumsOf (shown d) G
 
   asked : Comparable (shown d) (shown e) → ent 𝓤 (onEntry 𝓤 H A core.signature κs (q, (q′, tt)) a passed) (Core 𝓤 H A mem run .pre to)
   asked w =

@@ -1,0 +1,3 @@
+mod Passing
+mod Filling
+pub mod Weighing
