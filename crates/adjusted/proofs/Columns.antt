@@ -13,7 +13,7 @@ use Rattle.cubemap.proofs.Curves.{bent, bent-most}
 use Rattle.cubemap.proofs.Positions.{acpLift, acpLifted, position-acp-lifted}
 use Rattle.reciprocals.specs.Reciprocals.{Reciprocal}
 use Rattle.adjusted.specs.declared.Bend.{Bend}
-use Rattle.adjusted.specs.Adjusted.{Stretch}
+use Rattle.adjusted.specs.Adjusted.{AdjustedStretch}
 use Rattle.adjusted.specs.Bends.{Factors, PartNear, BendOf}
 
 -- T + 32, on a scale of 2^48, lies between v and v + slack
@@ -75,7 +75,8 @@ pub record Column (shift s d r : ℕ) : Type 0 where
   pub ratio : s ≤ 2 * d
   pub reciprocal : Reciprocal shift d r
 
-pub column-of : {A shift from to j : ℕ} {sums distances reciprocals : List ℕ} → Stretch A shift sums distances reciprocals from to → from ≤ j → j < to
+pub column-of : {A shift from to j : ℕ} {sums distances reciprocals : List ℕ}
+    → AdjustedStretch A shift sums distances reciprocals from to → from ≤ j → j < to
     → Column shift (getD sums j 0) (getD distances j 0) (getD reciprocals j 0)
 column-of {j = j} s h l = record {
   positive = s .has-distances .positive j h l;

@@ -1,3 +1,3 @@
 pub mod Nearly
 pub mod Columns
-pub mod Filling
+pub mod Told

@@ -1,10 +1,11 @@
-// T + 32 in ACP along a stretch of columns, without a division: from tables of the distances, of their reciprocals, and of the sums x + d.
+// T + 32 in ACP along a stretch of columns, without a division: from tables of the distances, of their reciprocals, and
+// of the sums x + d, which T + 32 replaces.
 ghost use mathlib.Core.Path.{_≡_};
 ghost use mathlib.Core.Bool.{true};
 ghost use Prim.Native.Nat.{ℕ, _+_, _*_, _≤_, _<_};
 ghost use lib.ListN.{length};
 ghost use Rattle.reciprocals.specs.Reciprocals.{Distances, Reciprocal, Reciprocals};
-ghost use Rattle.adjusted.specs.Adjusted.{Sums, Stretch, Adjusted, Kept};
+ghost use Rattle.adjusted.specs.Adjusted.{Sums, AdjustedStretch, Adjusted, KeptOutside};
 ghost use Rattle.adjusted.specs.Bends.{Factors, PartNear, BendOf};
 
 // The numbers of equation 14 on faces of one size, on a scale of 2^48 for each 64th of a sample. A bend of 32 bits is multiplied faster.
@@ -61,16 +62,17 @@ fn all_told(high: u64, sizes: u64) -> bool
 fn above(
     size: u64,
     shift: u64,
-    sums: &[u32; 512],
-    distances: &[u32; 512],
-    reciprocals: &[u32; 512],
+    distances: &[u32],
+    reciprocals: &[u32],
     from: u64,
     to: u64,
-    out: &mut [u32; 512],
+    table: &mut [u32],
 ) -> bool
-    requires { ⌜ Stretch size shift (now sums) (now distances) (now reciprocals) from to × (length (now out) ≡ 512) ⌝ }
-    ensures { λ r. ⌜ (r ≡ true → Adjusted size (now (sums .entry)) (now (distances .entry)) from to (now (out .exit)))
-        × Kept from (now (out .entry)) (now (out .exit)) × (length (now (out .exit)) ≡ 512) ⌝ }
+    requires { ⌜ AdjustedStretch size shift (now table) (now distances) (now reciprocals) from to ⌝ }
+    ensures { λ r. ⌜ (r ≡ true
+        → Adjusted size (now (table .entry)) (now (distances .entry)) from to (now (table .exit)))
+        × KeptOutside from to (now (table .entry)) (now (table .exit))
+        × (length (now (table .exit)) ≡ length (now (table .entry))) ⌝ }
 {
     let b = bend_of(size);
     let slope = b.slope;
@@ -81,11 +83,11 @@ fn above(
     let mut sizes: u64 = 0;
     let mut j = from;
     while j < to {
-        let k = difference(sums[j as usize], distances[j as usize]);
+        let k = difference(table[j as usize], distances[j as usize]);
         let v = base + part(slope, bend, shift, k, reciprocals[j as usize]);
         high = high | (v % 281474976710656 + room);
         sizes = sizes | k;
-        out[j as usize] = (v >> 48) as u32;
+        table[j as usize] = (v >> 48) as u32;
         j += 1;
     }
     all_told(high, sizes)
@@ -95,16 +97,17 @@ fn above(
 fn below(
     size: u64,
     shift: u64,
-    sums: &[u32; 512],
-    distances: &[u32; 512],
-    reciprocals: &[u32; 512],
+    distances: &[u32],
+    reciprocals: &[u32],
     from: u64,
     to: u64,
-    out: &mut [u32; 512],
+    table: &mut [u32],
 ) -> bool
-    requires { ⌜ Stretch size shift (now sums) (now distances) (now reciprocals) from to × (length (now out) ≡ 512) ⌝ }
-    ensures { λ r. ⌜ (r ≡ true → Adjusted size (now (sums .entry)) (now (distances .entry)) from to (now (out .exit)))
-        × Kept from (now (out .entry)) (now (out .exit)) × (length (now (out .exit)) ≡ 512) ⌝ }
+    requires { ⌜ AdjustedStretch size shift (now table) (now distances) (now reciprocals) from to ⌝ }
+    ensures { λ r. ⌜ (r ≡ true
+        → Adjusted size (now (table .entry)) (now (distances .entry)) from to (now (table .exit)))
+        × KeptOutside from to (now (table .entry)) (now (table .exit))
+        × (length (now (table .exit)) ≡ length (now (table .entry))) ⌝ }
 {
     let b = bend_of(size);
     let slope = b.slope;
@@ -115,35 +118,36 @@ fn below(
     let mut sizes: u64 = 0;
     let mut j = from;
     while j < to {
-        let k = difference(distances[j as usize], sums[j as usize]);
+        let k = difference(distances[j as usize], table[j as usize]);
         let v = base - part(slope, bend, shift, k, reciprocals[j as usize]);
         high = high | (v % 281474976710656 + room);
         sizes = sizes | k;
-        out[j as usize] = ((v >> 48) % 32768) as u32;
+        table[j as usize] = ((v >> 48) % 32768) as u32;
         j += 1;
     }
     all_told(high, sizes)
 }
 
 // Is the x of a column below zero?
-fn negative(sums: &[u32; 512], distances: &[u32; 512], j: u64) -> bool
-    requires { ⌜ j < 512 ⌝ }
+fn negative(sums: &[u32], distances: &[u32], j: u64) -> bool
+    requires { ⌜ (j < length (now sums)) × (j < length (now distances)) ⌝ }
 {
     sums[j as usize] < distances[j as usize]
 }
 
-// Where the sign of x changes along a stretch, by bisection; `to` where the first and the last column have one sign. The cut is a guess that the
-// flags then confirm, so an early answer is no promise.
-fn cut_of(sums: &[u32; 512], distances: &[u32; 512], from: u64, to: u64) -> u64
-    requires { ⌜ (from < to) × (to ≤ 512) ⌝ }
-    ensures { λ r. ⌜ (from ≤ r) × (r ≤ to) ⌝ }
+// Where the sign of x changes along a stretch, by bisection; its end where the first and the last column have one sign.
+// The cut is a guess that the flags then confirm, so an early answer is no promise.
+fn cut_of(sums: &[u32], distances: &[u32]) -> u64
+    requires { ⌜ (0 < length (now sums)) × (length (now sums) ≤ 512) × (length (now distances) ≡ length (now sums)) ⌝ }
+    ensures { λ r. ⌜ r ≤ length (now (sums .entry)) ⌝ }
 {
-    let sign = negative(sums, distances, from);
-    if negative(sums, distances, to - 1) == sign {
-        return to;
+    let end = sums.len() as u64;
+    let sign = negative(sums, distances, 0);
+    if negative(sums, distances, end - 1) == sign {
+        return end;
     }
-    let mut low = from;
-    let mut high = to;
+    let mut low: u64 = 0;
+    let mut high = end;
     while low + 1 < high {
         let middle = (low + high) / 2;
         if negative(sums, distances, middle) == sign {
@@ -155,31 +159,34 @@ fn cut_of(sums: &[u32; 512], distances: &[u32; 512], from: u64, to: u64) -> u64
     high
 }
 
-// T + 32 of each column, where every one is told by its bracket; where one is not, false, and nothing is said of the entries from `from` on.
-pub fn adjusted_along(
+// T + 32 of each column in the place of its sum, where every one is told by its bracket; where one is not, false, and
+// nothing is said of the table.
+pub fn adjusted_positions(
     size: u64,
     shift: u64,
-    sums: &[u32; 512],
-    distances: &[u32; 512],
-    reciprocals: &[u32; 512],
-    from: u64,
-    to: u64,
-    out: &mut [u32; 512],
+    distances: &[u32],
+    reciprocals: &[u32],
+    table: &mut [u32],
 ) -> bool
-    requires { ⌜ (size ≤ 512) × (shift ≤ 31) × (from ≤ to) × (to ≤ 512) × Distances (now distances) from to × Sums (now sums) (now distances) from to
-        × Reciprocals shift (now distances) (now reciprocals) from to × (length (now out) ≡ 512) ⌝ }
-    ensures { λ r. ⌜ (r ≡ true → Adjusted size (now (sums .entry)) (now (distances .entry)) from to (now (out .exit)))
-        × Kept from (now (out .entry)) (now (out .exit)) × (length (now (out .exit)) ≡ 512) ⌝ }
+    requires { ⌜ (size ≤ 512) × (shift ≤ 31) × (length (now table) ≤ 512)
+        × (length (now distances) ≡ length (now table)) × (length (now reciprocals) ≡ length (now table)) ⌝ }
+    requires { ⌜ Distances (now distances) 0 (length (now table))
+        × Sums (now table) (now distances) 0 (length (now table))
+        × Reciprocals shift (now distances) (now reciprocals) 0 (length (now table)) ⌝ }
+    ensures { λ r. ⌜ (r ≡ true → Adjusted size (now (table .entry)) (now (distances .entry))
+        0 (length (now (table .entry))) (now (table .exit)))
+        × (length (now (table .exit)) ≡ length (now (table .entry))) ⌝ }
 {
-    if from == to {
+    let end = table.len() as u64;
+    if end == 0 {
         return true;
     }
-    let cut = cut_of(sums, distances, from, to);
-    if negative(sums, distances, from) {
-        below(size, shift, sums, distances, reciprocals, from, cut, out)
-            & above(size, shift, sums, distances, reciprocals, cut, to, out)
+    let cut = cut_of(table, distances);
+    if negative(table, distances, 0) {
+        below(size, shift, distances, reciprocals, 0, cut, table)
+            & above(size, shift, distances, reciprocals, cut, end, table)
     } else {
-        above(size, shift, sums, distances, reciprocals, from, cut, out)
-            & below(size, shift, sums, distances, reciprocals, cut, to, out)
+        above(size, shift, distances, reciprocals, 0, cut, table)
+            & below(size, shift, distances, reciprocals, cut, end, table)
     }
 }

@@ -12,3 +12,4 @@ pub mod Tables
 pub mod Divisors
 pub mod Narrow
 pub mod Filling
+pub mod ListParts

@@ -1,3 +1,4 @@
 pub mod Integers
 pub mod Searches
 pub mod Sums
+pub mod ListParts

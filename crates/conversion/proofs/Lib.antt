@@ -1,1 +1,1 @@
-pub mod Planes
+pub mod ConvertedPlane

@@ -9,11 +9,14 @@ ghost use Rattle.checks.specs.Asking.{checkedMeans};
 ghost use Rattle.conversion.specs.Codes.{conversionOf};
 use checks::Checked;
 use cubemap::Converted;
+use cubemap::Layout;
 use cubemap::Refusal;
 use cubemap::Rotation;
 use cubemap::Shape;
-use resampling::Conversion;
-use resampling::Cube;
+use planes::Conversion;
+use planes::Target;
+use sampling::Cube;
+use sampling::Reading;
 
 // ---- the questions
 
@@ -107,29 +110,35 @@ fn convert_answer(
 // What the plane converter goes by.
 fn conversion_of(
     shape: Shape,
+    sampler: u64,
     size: u64,
     format: u64,
-    sampler: u64,
+    layout: Layout,
     rotation: Rotation,
 ) -> Conversion
-    ensures { λ r. ⌜ r ≡ conversionOf shape size format sampler rotation ⌝ }
+    ensures { λ r. ⌜ r ≡ conversionOf shape sampler size format layout rotation ⌝ }
 {
     let from = geometry::format_of(shape.format);
     let to = geometry::format_of(format);
     let by = sampling::sampler_of(sampler);
-    let source = Cube {
-        size: shape.size,
-        format: from,
+    let source = Reading {
+        cube: Cube {
+            size: shape.size,
+            format: from,
+        },
+        depth: shape.depth,
+        sampler: by,
     };
-    let target = Cube {
-        size: size,
-        format: to,
+    let target = Target {
+        cube: Cube {
+            size: size,
+            format: to,
+        },
+        layout: layout,
     };
     Conversion {
         source: source,
         target: target,
-        depth: shape.depth,
-        sampler: by,
         rotation: rotation,
     }
 }
@@ -153,18 +162,26 @@ fn convert_frame(
         (convertSettings shape «target_size» «target_format» sampler (now («source_layout» .entry)) (now («target_layout» .entry)) rotation)
         (now (source .entry)) ⌝ }
 {
-    let c = conversion_of(shape, target_size, target_format, sampler, rotation);
-    let steps = indices::face_steps(shape.size, frame::layout_of(source_layout));
+    let c = conversion_of(
+        shape,
+        sampler,
+        target_size,
+        target_format,
+        frame::layout_of(target_layout),
+        rotation,
+    );
+    let strides = strides::face_strides(shape.size, frame::layout_of(source_layout));
     let weights = taps::tap_weights();
     let coordinates = geometry::face_coordinates(geometry::format_of(target_format), target_size);
-    resampling::convert_plane(
+    let columns = target_size as usize;
+    let end = frame::luma_end(target_size);
+    planes::convert_plane(
         c,
-        source,
-        &steps,
+        frame::luma(source, shape.size),
+        &strides,
         &weights,
-        &coordinates,
-        frame::layout_of(target_layout),
-        target,
+        &coordinates[0..columns],
+        &mut target[0..end],
     );
 }
 

@@ -2,7 +2,7 @@
 use mathlib.Core.Path.{_≡_, refl, sym, _∙_, ap, ap₂, subst}
 use mathlib.Core.Bool.{Bool, true, false, not}
 use mathlib.Core.List.{List, [], _++_}
-use Prim.Native.Nat.{ℕ, zero, suc, _+_, _*_, _^_, _≤_, _<_}
+use Prim.Native.Nat.{ℕ, zero, suc, _+_, _*_, _/_, _^_, _≤_, _<_}
 use native.Mathlib.Decide.{ℕ-discrete}
 use native.Mathlib.Nat.{le-refl}
 use native.Mathlib.Omega.{arith}
@@ -22,23 +22,33 @@ use Rattle.cubemap.proofs.Passed.{depth-levels}
 use Rattle.cubemap.proofs.Layouts.{LayoutHolds}
 use Rattle.cubemap.proofs.Indices.{index-ok, placeAt-index, placeAt-ok}
 
-pub framed-none : (f : ℕ → ℕ) → framed f 0 ≡ []
-unfolding framed
-framed-none f = refl
+-- ---- numbers of any width
 
-pub framed-next : (f : ℕ → ℕ) (n : ℕ) → framed f (suc n) ≡ framed f n ++ littleEndian 2 (f n)
-unfolding framed
-framed-next f n = refl
+pub littleEndian-length : (w v : ℕ) → length (littleEndian w v) ≡ w
+littleEndian-length zero v = refl
+littleEndian-length (suc w) v = ap suc (littleEndian-length w (v / 256))
 
-pub framed-length : (f : ℕ → ℕ) (n : ℕ) → length (framed f n) ≡ 2 * n
-unfolding framed
-framed-length f zero = refl
-framed-length f (suc n) = length-append (framed f n) (littleEndian 2 (f n)) ∙ omega (arith, framed-length f n)
+module _ (w : ℕ) where
+  pub framed-none : (f : ℕ → ℕ) → framed w f 0 ≡ []
+  unfolding framed
+  framed-none f = refl
 
-pub framed-cong : (f g : ℕ → ℕ) (n : ℕ) → ((i : ℕ) → i < n → f i ≡ g i) → framed f n ≡ framed g n
-unfolding framed
-framed-cong f g zero h = refl
-framed-cong f g (suc n) h = ap₂ (λ l x. l ++ littleEndian 2 x) (framed-cong f g n (λ i l. h i (omega arith))) (h n (omega arith))
+  pub framed-next : (f : ℕ → ℕ) (n : ℕ) → framed w f (suc n) ≡ framed w f n ++ littleEndian w (f n)
+  unfolding framed
+  framed-next f n = refl
+
+  pub framed-length : (f : ℕ → ℕ) (n : ℕ) → length (framed w f n) ≡ w * n
+  framed-length f zero = ap length (framed-none f) ∙ omega arith
+  framed-length f (suc n) =
+      ap length (framed-next f n) ∙ length-append (framed w f n) (littleEndian w (f n))
+      ∙ omega (arith, framed-length f n, littleEndian-length w (f n))
+
+  pub framed-cong : (f g : ℕ → ℕ) (n : ℕ) → ((i : ℕ) → i < n → f i ≡ g i) → framed w f n ≡ framed w g n
+  framed-cong f g zero h = framed-none f ∙ sym (framed-none g)
+  framed-cong f g (suc n) h =
+      framed-next f n
+      ∙ ap₂ (λ l x. l ++ littleEndian w x) (framed-cong f g n (λ i l. h i (omega arith))) (h n (omega arith))
+      ∙ sym (framed-next g n)
 
 -- ---- samples of bytes with other bytes behind them
 
@@ -69,19 +79,19 @@ sample-bytes v h = omega arith
 
 -- ---- a sample of `framed` is what was framed
 
-pub sample-framed : (f : ℕ → ℕ) (n i : ℕ) → ((j : ℕ) → j < n → f j < 65536) → i < n → sampleAt (framed f n) i ≡ f i
+pub sample-framed : (f : ℕ → ℕ) (n i : ℕ) → ((j : ℕ) → j < n → f j < 65536) → i < n → sampleAt (framed 2 f n) i ≡ f i
 unfolding framed
 sample-framed f zero i b h = absurd (omega arith)
 sample-framed f (suc n) i b h = go (ℕ-discrete i n) (λ l. sample-framed f n i (λ j m. b j (omega arith)) l)
   where
-    go : Dec (i ≡ n) → (i < n → sampleAt (framed f n) i ≡ f i) → sampleAt (framed f n ++ littleEndian 2 (f n)) i ≡ f i
+    go : Dec (i ≡ n) → (i < n → sampleAt (framed 2 f n) i ≡ f i) → sampleAt (framed 2 f n ++ littleEndian 2 (f n)) i ≡ f i
     go (yes e) ih =
-        ap (sampleAt (framed f n ++ littleEndian 2 (f n))) (e ∙ last n)
-        ∙ sample-behind (framed f n) (littleEndian 2 (f n)) n 0 (framed-length f n) ∙ sample-bytes (f n) (b n (omega arith)) ∙ ap f (sym e)
+        ap (sampleAt (framed 2 f n ++ littleEndian 2 (f n))) (e ∙ last n)
+        ∙ sample-behind (framed 2 f n) (littleEndian 2 (f n)) n 0 (framed-length 2 f n) ∙ sample-bytes (f n) (b n (omega arith)) ∙ ap f (sym e)
       where
         last : (n : ℕ) → n ≡ n + 0
         last n = omega arith
-    go (no d) ih = sample-front (framed f n) (littleEndian 2 (f n)) n i (framed-length f n) (omega arith) ∙ ih (omega arith)
+    go (no d) ih = sample-front (framed 2 f n) (littleEndian 2 (f n)) n i (framed-length 2 f n) (omega arith) ∙ ih (omega arith)
 
 -- ---- the bytes of a plane of face size A in the layout L, with the sample g P at the place P
 
@@ -94,7 +104,7 @@ module _ (A : ℕ) (L : List ℕ) (o : LayoutHolds L) where
 
   pub planeOf-cong : (f g : Place → ℕ) → ((P : Place) → IsPlace A P → f P ≡ g P) → planeOf A L f ≡ planeOf A L g
   planeOf-cong f g h =
-      framed-cong (λ i. f (placeAt A L i)) (λ i. g (placeAt A L i)) (planeSamples A) (λ i l. h (placeAt A L i) (placeAt-ok A L o i l))
+      framed-cong 2 (λ i. f (placeAt A L i)) (λ i. g (placeAt A L i)) (planeSamples A) (λ i l. h (placeAt A L i) (placeAt-ok A L o i l))
 
 -- ---- checks 8 and 9
 
@@ -185,7 +195,7 @@ planeOf-length z L g = subst T (sym (length-test z (length bytes))) (subst (λ n
     bytes = planeOf (z .size) L g
 
     long : length bytes ≡ 2 * samplesIn z
-    long = framed-length (λ i. g (placeAt (z .size) L i)) (planeSamples (z .size)) ∙ omega (arith, samples-number z)
+    long = framed-length 2 (λ i. g (placeAt (z .size) L i)) (planeSamples (z .size)) ∙ omega (arith, samples-number z)
 
 pub planeOf-samples : (z : Shape) (L : List ℕ) (g : Place → ℕ) → LayoutHolds L → T (depthOK (z .depth))
     → ((P : Place) → IsPlace (z .size) P → g P < 2 ^ z .depth) → T (samplesOK z (planeOf (z .size) L g))

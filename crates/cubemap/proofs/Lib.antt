@@ -19,6 +19,7 @@ pub mod Rounding
 pub mod Positions
 pub mod Faces
 pub mod Locate
+pub mod Nearest
 pub mod Taps
 pub mod Samplers
 pub mod Places

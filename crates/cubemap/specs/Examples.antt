@@ -51,13 +51,13 @@ settingsOfSize2 format sampler t = record {
 
 -- the frame of size 2 with these samples
 abbrev frameOfSize2 : List ℕ → List ℕ
-frameOfSize2 vs = framed (λ i. getD vs i 0) 24
+frameOfSize2 vs = framed 2 (λ i. getD vs i 0) 24
 
 abbrev pub sourceOfSize2 : List ℕ
-sourceOfSize2 = framed (λ i. i * i * 7 % 256) 24
+sourceOfSize2 = framed 2 (λ i. i * i * 7 % 256) 24
 
 abbrev pub secondOfSize2 : List ℕ
-secondOfSize2 = framed (λ i. i * i * 5 % 256) 24
+secondOfSize2 = framed 2 (λ i. i * i * 5 % 256) 24
 
 -- size 2 to size 1, with the cubic sampler
 abbrev smaller : ConvertSettings
@@ -95,7 +95,7 @@ pub record Examples : Type 0 where
       ∷ 199 ∷ 220 ∷ 226 ∷ 58 ∷ 114 ∷ 152 ∷ 137 ∷ 71 ∷ 57 ∷ 71 ∷ 0 ∷ 244 ∷ []))
   -- from size 2 to size 1
   pub converted-smaller :
-      convertOutcome smaller sourceOfSize2 (replicate 12 7) ≡ outcome accepted (framed (λ i. getD (122 ∷ 220 ∷ 52 ∷ 237 ∷ 175 ∷ 36 ∷ []) i 0) 6)
+      convertOutcome smaller sourceOfSize2 (replicate 12 7) ≡ outcome accepted (framed 2 (λ i. getD (122 ∷ 220 ∷ 52 ∷ 237 ∷ 175 ∷ 36 ∷ []) i 0) 6)
   -- to ACP: this place of the target reads that one of the source. (In CMP it would read column 59 in row 354.)
   pub converted-to-acp :
       (source : List ℕ) → convertedSample toAcp source (place 0 0 1) ≡ sampleAtPlace source 512 usualLayout (place 5 70 324)
@@ -144,7 +144,7 @@ pub record Examples : Type 0 where
   -- samples 3 to 5 of the first frame are beyond the depth, 8: "the lowest offending index comes with it"
   pub lowest-index :
       (buffer : List ℕ)
-      → scoreOutcome sizeOne (framed (λ i. cond (leb 3 i) 256 255) 6) (flat 12) buffer ≡ outcome (answer 10 3) buffer
+      → scoreOutcome sizeOne (framed 2 (λ i. cond (leb 3 i) 256 255) 6) (flat 12) buffer ≡ outcome (answer 10 3) buffer
   -- "its number plus 256 × the index"
   pub returned : returnCode (answer 10 3) ≡ 778
   -- the paper's four records and five lines

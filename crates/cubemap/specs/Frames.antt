@@ -38,10 +38,10 @@ sampleAt bytes i = getD bytes (2 * i) 0 + 256 * getD bytes (2 * i + 1) 0
 abbrev pub withinDepth : ℕ → ℕ → Bool
 withinDepth D v = ltb v (2 ^ D)
 
--- the bytes of n samples, f i at index i
-unfoldable pub framed : (ℕ → ℕ) → ℕ → List ℕ
-framed f zero = []
-framed f (suc n) = framed f n ++ littleEndian 2 (f n)
+-- the bytes of n numbers of w bytes each, f i at index i; a sample is a number of two bytes
+unfoldable pub framed : ℕ → (ℕ → ℕ) → ℕ → List ℕ
+framed w f zero = []
+framed w f (suc n) = framed w f n ++ littleEndian w (f n)
 
 -- "A frame is 3A columns by 2A rows": its samples
 abbrev pub planeSamples : ℕ → ℕ
@@ -117,7 +117,7 @@ placeAt A L i = placeNumbered A (lowest (λ k. eqb (index A L (placeNumbered A k
 
 -- the plane of bytes in the layout L whose sample at each place P is g P
 abbrev pub planeOf : ℕ → List ℕ → (Place → ℕ) → List ℕ
-planeOf A L g = framed (λ i. g (placeAt A L i)) (planeSamples A)
+planeOf A L g = framed 2 (λ i. g (placeAt A L i)) (planeSamples A)
 
 -- the sample that a plane of bytes has at a place, and that a frame has there
 abbrev pub sampleAtPlace : List ℕ → ℕ → List ℕ → Place → ℕ

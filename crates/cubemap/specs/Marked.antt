@@ -39,7 +39,7 @@ abbrev pub sizeOne : ScoreSettings
 sizeOne = record { shape = shapeOf 1 8 cmp; firstLayout = usualLayout; secondLayout = usualLayout }
 
 abbrev pub flat : ℕ → List ℕ
-flat v = framed (λ i. v) 6
+flat v = framed 2 (λ i. v) 6
 
 -- P12: A = 3 and CMP at both ends, depth 8, the usual layouts, the turn (1,0,1,0), a quarter about Y, nearest
 abbrev quarterAboutY : ConvertSettings

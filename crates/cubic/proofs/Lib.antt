@@ -1,4 +1,6 @@
-pub mod Stretches
-mod Values
-mod Rows
-mod Lines
+pub mod PositionTables
+mod Sources
+pub mod Storing
+mod CubicValues
+mod TapRows
+mod InsideTaps

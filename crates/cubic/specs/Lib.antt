@@ -1,2 +1,3 @@
-pub mod Stretches
-pub mod Lines
+pub mod PositionTables
+pub mod Sources
+pub mod InsideTaps

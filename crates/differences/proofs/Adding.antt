@@ -9,7 +9,7 @@ use lib.Seq.{getD-set-other}
 use Rattle.arithmetic.specs.Sums.{sumBelow}
 use Rattle.arithmetic.proofs.Filling.{entries-next}
 use Rattle.arithmetic.proofs.Sums.{sum-empty, sum-next}
-use Rattle.differences.specs.Rows.{SumsTo, Added}
+use Rattle.differences.specs.RowSquares.{SumsTo, Added}
 
 -- the first n columns are done
 pub record Adding (more : ℕ → ℕ) (before squares : List ℕ) (n : ℕ) : Type 0 where

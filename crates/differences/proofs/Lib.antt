@@ -1,2 +1,2 @@
-pub mod Planes
+pub mod ScoredPlanes
 mod Adding

@@ -7,10 +7,10 @@ ghost use lib.ListN.{getD, set};
 ghost use Rattle.arithmetic.specs.Sums.{bothTerms};
 ghost use Rattle.cubemap.specs.Frames.{sampleAt};
 ghost use Rattle.cubemap.specs.Score.{difference, squaredDifference};
-ghost use Rattle.indices.specs.Steps.{RowsAhead};
-ghost use Rattle.differences.specs.Rows.{ScoredFace, ScoredPlane, ScoredRow, RowOf, rowSquares, bothSquares};
-ghost use Rattle.differences.specs.Rows.{faceSquares, facesSquares, SumsTo, Room, Added, Squares};
-use indices::FaceSteps;
+ghost use Rattle.strides.specs.FaceStrides.{RowsAhead};
+ghost use Rattle.differences.specs.RowSquares.{ScoredFace, ScoredPlane, ScoredRow, rowSquares, bothSquares};
+ghost use Rattle.differences.specs.RowSquares.{faceSquares, facesSquares, SumsTo, Room, Added, Squares};
+use strides::Strides;
 
 // |x − y|
 fn apart(x: u64, y: u64) -> u64
@@ -80,102 +80,92 @@ fn add_rows_against(size: u64, first: &[u8], second: &[u8], squares: &mut [u32; 
     }
 }
 
-// Adds the squares of a row that is given in the first frame, and found by the steps in the second.
-fn add_by_steps(
+// Adds the squares of a row that is given in the first frame, and found by the strides in the second.
+fn add_by_strides(
     size: u64,
     first_row: &[u8],
     second: &[u8],
-    second_steps: FaceSteps,
+    second_strides: Strides,
     row: u64,
     squares: &mut [u32; 512],
 )
-    requires { ⌜ ScoredRow size (now «first_row») × ScoredFace size (now second) «second_steps» ⌝ }
+    requires { ⌜ ScoredRow size (now «first_row») × ScoredFace size (now second) «second_strides» ⌝ }
     requires { ⌜ (row < size) × Room size (now squares) ⌝ }
-    ensures { λ _. ⌜ Added size (rowSquares (now («first_row» .entry)) (now (second .entry)) «second_steps» row)
+    ensures { λ _. ⌜ Added size (rowSquares (now («first_row» .entry)) (now (second .entry)) «second_strides» row)
         (now (squares .entry)) (now (squares .exit)) ⌝ }
 {
     let mut column: u64 = 0;
     while column < size {
         let x = frame::sample(first_row, column as usize);
-        let y = indices::sample_by_steps(second, size, second_steps, column, row);
+        let y = strides::sample_on_face(second, size, second_strides, column, row);
         add_to(squares, column, squared(x, y));
         column += 1;
     }
 }
 
-// A row that runs ahead along a line of a frame, as the part of the plane that it is.
-fn row_of(plane: &[u8], size: u64, steps: FaceSteps, row: u64) -> &[u8]
-    requires { ⌜ ScoredFace size (now plane) steps × (steps .across ≡ pos 1) × (row < size) ⌝ }
-    ensures { λ r. ⌜ RowOf size (now (plane .entry)) steps row (now r) ⌝ }
-{
-    let from = 2 * (indices::step_to(steps, 0, row) as usize);
-    let to = from + 2 * (size as usize);
-    &plane[from..to]
-}
-
 // Adds the squares of a row that is given in the first frame, whichever way it runs in the second. Where it runs back
-// along a line, it runs ahead with the columns in the other order.
+// along a row of that frame, it runs ahead with the columns in the other order.
 fn add_row(
     size: u64,
     first_row: &[u8],
     second: &[u8],
-    second_steps: FaceSteps,
+    second_strides: Strides,
     row: u64,
     squares: &mut [u32; 512],
 )
-    requires { ⌜ ScoredRow size (now «first_row») × ScoredFace size (now second) «second_steps» ⌝ }
+    requires { ⌜ ScoredRow size (now «first_row») × ScoredFace size (now second) «second_strides» ⌝ }
     requires { ⌜ (row < size) × Room size (now squares) ⌝ }
-    ensures { λ _. ⌜ Added size (rowSquares (now («first_row» .entry)) (now (second .entry)) «second_steps» row)
+    ensures { λ _. ⌜ Added size (rowSquares (now («first_row» .entry)) (now (second .entry)) «second_strides» row)
         (now (squares .entry)) (now (squares .exit)) ⌝ }
 {
-    let across = second_steps.across;
-    if across == 1 {
+    let column_stride = second_strides.column;
+    if column_stride == 1 {
         return add_rows(
             size,
             first_row,
-            row_of(second, size, second_steps, row),
+            strides::unbroken_row(second, size, second_strides, row),
             squares,
         );
     }
-    if across == 0 - 1 {
-        let mirrored = indices::mirrored(size, second_steps);
+    if column_stride == 0 - 1 {
+        let mirrored = strides::mirrored(size, second_strides);
         return add_rows_against(
             size,
             first_row,
-            row_of(second, size, mirrored, row),
+            strides::unbroken_row(second, size, mirrored, row),
             squares,
         );
     }
-    add_by_steps(size, first_row, second, second_steps, row, squares)
+    add_by_strides(size, first_row, second, second_strides, row, squares)
 }
 
 // ---- a row and its mirror
 
-// Adds the squares of two rows that are given in the first frame, and found by the steps in the second. Where rows run
-// down the second frame, the two meet the same lines of it: one loop goes through those lines once.
+// Adds the squares of two rows that are given in the first frame, and found by the strides in the second. Where rows
+// run down the second frame, the two meet the same rows of it: one loop goes through those once.
 fn add_pairs(
     size: u64,
     first_row: &[u8],
     first_mirror: &[u8],
     second: &[u8],
-    second_steps: FaceSteps,
+    second_strides: Strides,
     row: u64,
     mirror: u64,
     squares: &mut [u32; 512],
 )
     requires { ⌜ ScoredRow size (now «first_row») × ScoredRow size (now «first_mirror»)
-        × ScoredFace size (now second) «second_steps» ⌝ }
+        × ScoredFace size (now second) «second_strides» ⌝ }
     requires { ⌜ (row < size) × (mirror < size) × Room size (now squares) ⌝ }
-    ensures { λ _. ⌜ Added size (λ m. rowSquares (now («first_row» .entry)) (now (second .entry)) «second_steps» row m
-        + rowSquares (now («first_mirror» .entry)) (now (second .entry)) «second_steps» mirror m)
+    ensures { λ _. ⌜ Added size (λ m. rowSquares (now («first_row» .entry)) (now (second .entry)) «second_strides» row m
+        + rowSquares (now («first_mirror» .entry)) (now (second .entry)) «second_strides» mirror m)
         (now (squares .entry)) (now (squares .exit)) ⌝ }
 {
     let mut column: u64 = 0;
     while column < size {
         let x = frame::sample(first_row, column as usize);
-        let y = indices::sample_by_steps(second, size, second_steps, column, row);
+        let y = strides::sample_on_face(second, size, second_strides, column, row);
         let z = frame::sample(first_mirror, column as usize);
-        let w = indices::sample_by_steps(second, size, second_steps, column, mirror);
+        let w = strides::sample_on_face(second, size, second_strides, column, mirror);
         add_to(squares, column, squared(x, y) + squared(z, w));
         column += 1;
     }
@@ -188,62 +178,62 @@ fn add_both(
     first_row: &[u8],
     first_mirror: &[u8],
     second: &[u8],
-    second_steps: FaceSteps,
+    second_strides: Strides,
     row: u64,
     mirror: u64,
     squares: &mut [u32; 512],
 )
     requires { ⌜ ScoredRow size (now «first_row») × ScoredRow size (now «first_mirror»)
-        × ScoredFace size (now second) «second_steps» ⌝ }
+        × ScoredFace size (now second) «second_strides» ⌝ }
     requires { ⌜ (row < size) × (mirror < size) × SumsTo size 201228300 (now squares) ⌝ }
     ensures { λ _. ⌜ Added size (bothSquares (now («first_row» .entry)) (now («first_mirror» .entry))
-        (now (second .entry)) «second_steps» row mirror) (now (squares .entry)) (now (squares .exit)) ⌝ }
+        (now (second .entry)) «second_strides» row mirror) (now (squares .entry)) (now (squares .exit)) ⌝ }
 {
     if mirror <= row {
-        return add_row(size, first_row, second, second_steps, row, squares);
+        return add_row(size, first_row, second, second_strides, row, squares);
     }
-    let across = second_steps.across;
-    if !arithmetic::within(1, across) {
+    let column_stride = second_strides.column;
+    if !arithmetic::within(1, column_stride) {
         return add_pairs(
             size,
             first_row,
             first_mirror,
             second,
-            second_steps,
+            second_strides,
             row,
             mirror,
             squares,
         );
     }
-    add_row(size, first_row, second, second_steps, row, squares);
-    add_row(size, first_mirror, second, second_steps, mirror, squares)
+    add_row(size, first_row, second, second_strides, row, squares);
+    add_row(size, first_mirror, second, second_strides, mirror, squares)
 }
 
-// Adds the squares of a row of a face and of its mirror. Both run ahead along lines of the first frame, and are handed
+// Adds the squares of a row of a face and of its mirror. Both run ahead along rows of the first frame, and are handed
 // on as parts of its plane.
 fn add_face(
     size: u64,
     first: &[u8],
-    first_steps: FaceSteps,
+    first_strides: Strides,
     second: &[u8],
-    second_steps: FaceSteps,
+    second_strides: Strides,
     row: u64,
     mirror: u64,
     squares: &mut [u32; 512],
 )
-    requires { ⌜ ScoredFace size (now first) «first_steps» × («first_steps» .across ≡ pos 1)
-        × ScoredFace size (now second) «second_steps» ⌝ }
+    requires { ⌜ ScoredFace size (now first) «first_strides» × («first_strides» .column ≡ pos 1)
+        × ScoredFace size (now second) «second_strides» ⌝ }
     requires { ⌜ (row < size) × (mirror < size) × SumsTo size 201228300 (now squares) ⌝ }
     ensures { λ _. ⌜ Added size
-        (λ m. bothTerms (λ n. faceSquares (now (first .entry)) «first_steps» (now (second .entry)) «second_steps» n m)
+        (λ m. bothTerms (λ n. faceSquares (now (first .entry)) «first_strides» (now (second .entry)) «second_strides» n m)
         row mirror) (now (squares .entry)) (now (squares .exit)) ⌝ }
 {
     add_both(
         size,
-        row_of(first, size, first_steps, row),
-        row_of(first, size, first_steps, mirror),
+        strides::unbroken_row(first, size, first_strides, row),
+        strides::unbroken_row(first, size, first_strides, mirror),
         second,
-        second_steps,
+        second_strides,
         row,
         mirror,
         squares,
@@ -255,23 +245,23 @@ fn add_face(
 pub fn squares_of(
     size: u64,
     first: &[u8],
-    first_steps: &[i64; 18],
+    first_strides: &[i64; 18],
     second: &[u8],
-    second_steps: &[i64; 18],
+    second_strides: &[i64; 18],
     row: u64,
     mirror: u64,
 ) -> [u32; 512]
-    requires { ⌜ ScoredPlane size (now first) (now «first_steps») × ScoredPlane size (now second) (now «second_steps»)
-        × RowsAhead (now «first_steps») ⌝ }
+    requires { ⌜ ScoredPlane size (now first) (now «first_strides») × ScoredPlane size (now second) (now «second_strides»)
+        × RowsAhead (now «first_strides») ⌝ }
     requires { ⌜ (row < size) × (mirror < size) ⌝ }
-    ensures { λ r. ⌜ Squares size (λ m. bothTerms (λ n. facesSquares (now (first .entry)) (now («first_steps» .entry))
-        (now (second .entry)) (now («second_steps» .entry)) n m) row mirror) r ⌝ }
+    ensures { λ r. ⌜ Squares size (λ m. bothTerms (λ n. facesSquares (now (first .entry)) (now («first_strides» .entry))
+        (now (second .entry)) (now («second_strides» .entry)) n m) row mirror) r ⌝ }
 {
     let mut squares = [0; 512];
     let mut face: u64 = 0;
     while face < 6 {
-        let from = indices::steps_at(first_steps, face);
-        let to = indices::steps_at(second_steps, face);
+        let from = strides::strides_at(first_strides, face);
+        let to = strides::strides_at(second_strides, face);
         add_face(size, first, from, second, to, row, mirror, &mut squares);
         face += 1;
     }

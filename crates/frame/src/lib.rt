@@ -1,12 +1,13 @@
-// Frames in code: samples and layouts.
+// Frames in code: samples, planes and layouts.
 ghost use mathlib.Core.Path.{_≡_};
 ghost use Prim.Native.Nat.{_+_, _*_, _^_, _≤_, _<_};
 ghost use lib.Dec.{T};
 ghost use lib.Seq.{sets};
 ghost use lib.ListN.{length};
 ghost use Rattle.cubemap.specs.Interface.{littleEndian};
-ghost use Rattle.cubemap.specs.Frames.{sampleAt, layoutBytes, faceIn, quarterTurnsIn, slotOf};
+ghost use Rattle.cubemap.specs.Frames.{sampleAt, planeSamples, layoutBytes, faceIn, quarterTurnsIn, slotOf};
 ghost use Rattle.cubemap.specs.Checks.{depthOK};
+ghost use Rattle.frame.specs.LumaPlane.{lumaOf};
 use cubemap::Layout;
 
 // ---- samples
@@ -43,6 +44,25 @@ pub fn sample_bound(depth: u64) -> u64
     ensures { λ r. ⌜ (r ≡ 2 ^ depth) × (r ≤ 4096) ⌝ }
 {
     1 << depth
+}
+
+// ---- planes
+
+// Where luma ends in the bytes of a frame.
+pub fn luma_end(size: u64) -> usize
+    requires { ⌜ size ≤ 512 ⌝ }
+    ensures { λ r. ⌜ (r ≡ 2 * planeSamples size) × (r ≤ 3145728) ⌝ }
+{
+    (12 * size * size) as usize
+}
+
+// Luma, the first plane of a frame, as the part of its bytes that it is.
+pub fn luma(bytes: &[u8], size: u64) -> &[u8]
+    requires { ⌜ (size ≤ 512) × (2 * planeSamples size ≤ length (now bytes)) ⌝ }
+    ensures { λ r. ⌜ now r ≡ lumaOf size (now (bytes .entry)) ⌝ }
+{
+    let end = luma_end(size);
+    &bytes[0..end]
 }
 
 // ---- layouts

@@ -1,3 +1,3 @@
-pub mod Confirming
+pub mod Confirmed
 pub mod Moves
 pub mod Carrying

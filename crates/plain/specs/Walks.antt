@@ -11,23 +11,23 @@ use Rattle.plain.specs.declared.Carried.{Carried}
 
 -- the number at column i of the stretch, and its size
 abbrev pub walkAt : Walk → ℕ → ℤ
-walkAt w i = w .at +ℤ pos i *ℤ w .by
+walkAt w i = w .start +ℤ pos i *ℤ w .slope
 
 abbrev pub sizeAt : Walk → ℕ → ℕ
 sizeAt w i = natAbs (walkAt w i)
 
 abbrev pub walk : ℤ → ℤ → Walk
-walk at by = record { at = at; by = by }
+walk start slope = record { start = start; slope = slope }
 
--- a walk's first number is not negative, and it moves by no more than two such numbers lie apart
-pub record Start (at by : ℤ) : Type 0 where
-  pub at-small : natAbs at ≤ 1073741822
-  pub at-ahead : pos (natAbs at) ≡ at
-  pub by-small : natAbs by ≤ 2147483644
+-- a walk's start is not negative, and its slope is no more than two such numbers lie apart
+pub record WalkInRange (start slope : ℤ) : Type 0 where
+  pub start-small : natAbs start ≤ 1073741822
+  pub start-ahead : pos (natAbs start) ≡ start
+  pub slope-small : natAbs slope ≤ 2147483644
 
 -- no number of a walk is negative at its first `count` columns
 pub record Forward (w : Walk) (count : ℕ) : Type 0 where
-  pub start : Start (w .at) (w .by)
+  pub in-range : WalkInRange (w .start) (w .slope)
   pub ahead : (i : ℕ) → i < count → pos (sizeAt w i) ≡ walkAt w i
 
 -- the sums x + d and the distances d of `count` columns: no ratio x / d exceeds 1, and each distance is within question 13
@@ -55,7 +55,8 @@ pub record Carries (most : ℕ) (number : ℕ → ℤ) (c : Carried) : Type 0 wh
   pub next : (i : ℕ) → number i +ℤ (pos (c .up) -ℤ pos (c .down)) ≡ number (i + 1)
   pub few : (c .up ≤ most) × (c .down ≤ most)
 
--- the table has T + 32 in CMP of each column, from the entry `from` on
-pub record Plain (A : ℕ) (sum distance : Walk) (from count : ℕ) (table : List ℕ) : Type 0 where
+-- the table has T + 32 in CMP of each column, from the entry `at` on
+pub record Plain (A : ℕ) (sum distance : Walk) (at count : ℕ) (table : List ℕ) : Type 0 where
   pub entry : (i : ℕ) → i < count
-      → position64 Format.Cmp A (walkAt sum i -ℤ walkAt distance i) (sizeAt distance i) ≡ pos (getD table (from + i) 0) -ℤ pos 32
+      → position64 Format.Cmp A (walkAt sum i -ℤ walkAt distance i) (sizeAt distance i)
+      ≡ pos (getD table (at + i) 0) -ℤ pos 32

@@ -1,2 +1,2 @@
 pub mod Ratios
-pub mod Lines
+pub mod RayLines

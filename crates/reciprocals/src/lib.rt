@@ -208,7 +208,7 @@ fn confirmed(
 }
 
 // The reciprocals of the distances of a stretch. Where one guess is not confirmed, `good` is false and nothing is said of the table.
-pub fn reciprocals_along(
+pub fn reciprocals_of(
     distances: &[u32; 512],
     from: u64,
     to: u64,

@@ -1,3 +1,2 @@
-pub mod SlotRays
-pub mod RunRays
-pub mod StretchRays
+mod RowParts
+mod StretchRays

@@ -1,2 +1,2 @@
-mod Stretches
+mod NearestValues
 pub mod ByLayout

@@ -1,2 +1,2 @@
 mod Summing
-mod Weighing
+mod WeighedSums

@@ -7,10 +7,10 @@ ghost use Rattle.cubemap.specs.Score.{errorSum, weightSum};
 ghost use Rattle.cubemap.specs.Checks.{scoreSettings, firstFailed, scoreChecks};
 ghost use Rattle.cubemap.specs.Outcomes.{scoredMeans, scoreResult};
 ghost use Rattle.checks.specs.Asking.{checkedMeans};
-ghost use Rattle.indices.specs.Steps.{RowsAhead, sampleBy};
-ghost use Rattle.differences.specs.Rows.{ScoredPlane, facesSquares};
+ghost use Rattle.strides.specs.FaceStrides.{RowsAhead, sampleBy};
+ghost use Rattle.differences.specs.RowSquares.{ScoredPlane, facesSquares};
 ghost use Rattle.view.specs.Views.{shown, frameOf};
-ghost use Rattle.weights.specs.Rows.{AtMost};
+ghost use Rattle.weights.specs.RowWeights.{AtMost};
 ghost use Rattle.scoring.specs.Comparing.{Comparable, sumsOf};
 use checks::Checked;
 use cubemap::Format;
@@ -42,26 +42,26 @@ fn weigh(size: u64, weights: &[u64; 512], squares: &[u32; 512]) -> u64
 fn rows_error(
     size: u64,
     first: &[u8],
-    first_steps: &[i64; 18],
+    first_strides: &[i64; 18],
     second: &[u8],
-    second_steps: &[i64; 18],
+    second_strides: &[i64; 18],
     weights: &[u64; 512],
     row: u64,
     mirror: u64,
 ) -> u64
-    requires { ⌜ ScoredPlane size (now first) (now «first_steps») × ScoredPlane size (now second) (now «second_steps»)
-        × RowsAhead (now «first_steps») ⌝ }
+    requires { ⌜ ScoredPlane size (now first) (now «first_strides») × ScoredPlane size (now second) (now «second_strides»)
+        × RowsAhead (now «first_strides») ⌝ }
     requires { ⌜ AtMost size 65536 (now weights) × (row < size) × (mirror < size) ⌝ }
     ensures { λ r. ⌜ (r ≡ bothTerms (λ n. sumBelow (λ m. getD (now (weights .entry)) m 0 * facesSquares
-        (now (first .entry)) (now («first_steps» .entry)) (now (second .entry)) (now («second_steps» .entry)) n m) size)
+        (now (first .entry)) (now («first_strides» .entry)) (now (second .entry)) (now («second_strides» .entry)) n m) size)
         row mirror) × (r ≤ 6752101308825600) ⌝ }
 {
     let squares = differences::squares_of(
         size,
         first,
-        first_steps,
+        first_strides,
         second,
-        second_steps,
+        second_strides,
         row,
         mirror,
     );
@@ -95,21 +95,21 @@ fn rows_weight(size: u64, weights: &[u64; 512], row: u64, mirror: u64) -> u64
     sum
 }
 
-// The two sums of two planes, whose samples are found by steps. The weights of a row are found once for all six faces
+// The two sums of two planes, whose samples are found by strides. The weights of a row are found once for all six faces
 // and the opposite row.
 fn score_planes(
     format: Format,
     size: u64,
     first: &[u8],
-    first_steps: &[i64; 18],
+    first_strides: &[i64; 18],
     second: &[u8],
-    second_steps: &[i64; 18],
+    second_strides: &[i64; 18],
 ) -> Scored
-    requires { ⌜ ScoredPlane size (now first) (now «first_steps») × ScoredPlane size (now second) (now «second_steps»)
-        × RowsAhead (now «first_steps») ⌝ }
+    requires { ⌜ ScoredPlane size (now first) (now «first_strides») × ScoredPlane size (now second) (now «second_strides»)
+        × RowsAhead (now «first_strides») ⌝ }
     ensures { λ r. ⌜ r ≡ Scored.Sums
-        (errorSum format size (sampleBy (now (first .entry)) (now («first_steps» .entry)))
-        (sampleBy (now (second .entry)) (now («second_steps» .entry))))
+        (errorSum format size (sampleBy (now (first .entry)) (now («first_strides» .entry)))
+        (sampleBy (now (second .entry)) (now («second_strides» .entry))))
         (weightSum format size) ⌝ }
 {
     let mut weights = [0; 512];
@@ -124,9 +124,9 @@ fn score_planes(
         errors += rows_error(
             size,
             first,
-            first_steps,
+            first_strides,
             second,
-            second_steps,
+            second_strides,
             &weights,
             row,
             opposite,
@@ -141,8 +141,8 @@ fn score_planes(
 }
 
 // The two sums of two frames whose parts are apart. A place has the weight of the one with column and row exchanged,
-// and of the one in the opposite column: so both frames' steps are aligned with the first one's, and each of its rows
-// then runs ahead along a line.
+// and of the one in the opposite column: so both frames' strides are aligned with the first one's, and each of its rows
+// then runs ahead along a row of the frame.
 fn sums_apart(
     first: &[u8],
     shape: Shape,
@@ -156,11 +156,18 @@ fn sums_apart(
 {
     let format = geometry::format_of(shape.format);
     let size = shape.size;
-    let first_table = indices::face_steps(size, first_layout);
-    let second_table = indices::face_steps(size, second_layout);
-    let first_steps = indices::aligned_steps(size, &first_table, &first_table);
-    let second_steps = indices::aligned_steps(size, &first_table, &second_table);
-    score_planes(format, size, first, &first_steps, second, &second_steps)
+    let first_table = strides::face_strides(size, first_layout);
+    let second_table = strides::face_strides(size, second_layout);
+    let first_strides = strides::aligned_strides(size, &first_table, &first_table);
+    let second_strides = strides::aligned_strides(size, &first_table, &second_table);
+    score_planes(
+        format,
+        size,
+        frame::luma(first, size),
+        &first_strides,
+        frame::luma(second, size),
+        &second_strides,
+    )
 }
 
 // The two sums of two frames of one shape, each as one thing.

@@ -29,7 +29,7 @@ use Rattle.sequences.specs.Model.{told, answerTo, accepts, Model, movedF
 use Rattle.sequences.specs.Runs.{leftBy, Each, Reads, OwnCubeTurn, AcceptedAreOwn, Keeping}
 use Rattle.sequences.specs.Demand3.{Answers}
 use Rattle.sequences.proofs.Steps.{cube-matched}
-use Rattle.sequences.proofs.Frames.{source-holds}
+use Rattle.sequences.proofs.ListedFrames.{source-holds}
 
 -- what a run says of one call and the frame left to it
 pub record Fair (F : Frame) (c : ConvertCall) : Type 0 where

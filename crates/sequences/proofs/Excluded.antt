@@ -55,7 +55,7 @@ twice = 12 ∷ 0 ∷ 14 ∷ 0 ∷ 10 ∷ 0 ∷ 13 ∷ 0 ∷ 11 ∷ 0 ∷ 15 ∷ 
 
 -- another frame
 abbrev another : List ℕ
-another = framed (λ i. 20) 6
+another = framed 2 (λ i. 20) 6
 
 abbrev room : List ℕ
 room = replicate 12 7
@@ -167,7 +167,7 @@ unfolding head Keeping
 no-copies S D = absurd (omega (arith, ap head (must-leave (Keeping Copies) S D 0 first first usualLayout usualLayout (writes first, tt))))
 
 abbrev grey : List ℕ
-grey = framed (λ i. 128) 6
+grey = framed 2 (λ i. 128) 6
 
 no-grey : (S : Scorer) → Demand3 (Keeping Grey) S → ⊥
 unfolding head Keeping framed

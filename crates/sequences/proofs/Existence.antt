@@ -31,7 +31,7 @@ use Rattle.sequences.specs.Demand3.{frameOK}
 use Rattle.sequences.specs.Existence.{turning, turned, CubeTurn, CubeTurns, Turned, one, two, TwoLists}
 use Rattle.sequences.specs.Existence.{deep, namesSmaller, namesLarger, OtherSizes, Existence}
 use Rattle.sequences.proofs.Histories.{all-among, reads-whole, made-keeps}
-use Rattle.sequences.proofs.Frames.{FrameHolds, frame-holds, moved-holds}
+use Rattle.sequences.proofs.ListedFrames.{FrameHolds, frame-holds, moved-holds}
 use Rattle.sequences.proofs.Calls.{Accepted, accepted-case}
 use Rattle.sequences.proofs.Runs.{leaves-model, kept}
 

@@ -1,10 +1,10 @@
-pub mod Examples
+pub mod ListExamples
 pub mod Steps
 pub mod Histories
-pub mod Frames
+pub mod ListedFrames
 pub mod Calls
 pub mod Runs
-pub mod Scores
+pub mod ListedScores
 pub mod Permanence
 pub mod Existence
 pub mod Excluded

@@ -11,7 +11,7 @@ use Rattle.sequences.specs.Runs.{Converter, lastFrame, Run}
 use Rattle.sequences.specs.Demand3.{Scorer, Scores, Demand3, Permanence}
 use Rattle.sequences.proofs.Steps.{step}
 use Rattle.sequences.proofs.Runs.{kept}
-use Rattle.sequences.proofs.Scores.{given, scored}
+use Rattle.sequences.proofs.ListedScores.{given, scored}
 
 pub permanence : Permanence
 permanence = record { step = step; kept = kept; given = given; scored = scored }

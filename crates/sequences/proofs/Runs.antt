@@ -28,7 +28,7 @@ use Rattle.sequences.specs.Runs.{leftBy, lastFrame, Each, Keeping, Run}
 use Rattle.sequences.specs.Demand3.{Answered, Moved, frameOK, Kept}
 use Rattle.sequences.proofs.Histories.{among-keeping}
 use Rattle.sequences.proofs.Steps.{identity-keeps, led-is, Matched, cube-matched, led-exactly}
-use Rattle.sequences.proofs.Frames.{FrameHolds, frame-ok, source-holds, moved-sample, moved-holds}
+use Rattle.sequences.proofs.ListedFrames.{FrameHolds, frame-ok, source-holds, moved-sample, moved-holds}
 use Rattle.sequences.proofs.Calls.{Fair, each-fair, answers, Refused, Accepted, cases}
 
 -- ---- the model alone: its frame keeps its shape, and its fold is that of the accepted turns

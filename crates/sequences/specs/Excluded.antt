@@ -59,7 +59,7 @@ TurnsUntilAnother (c ∷ cs) = TurnsOnly (record { shape = c .settings .sourceSh
 
 -- "one flat grey for every call"
 abbrev pub Grey : ConvertCall → Type 0
-Grey c = Writes (framed (λ i. 128) (planeSamples (c .settings .targetSize))) c
+Grey c = Writes (framed 2 (λ i. 128) (planeSamples (c .settings .targetSize))) c
 
 -- "one that writes nothing yet says 0": it refuses what it must
 abbrev pub WritesNothing : ConvertCall → Type 0

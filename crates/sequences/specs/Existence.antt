@@ -53,10 +53,10 @@ pub record Turned (F : Frame) (ts : List Rotation) : Type 0 where
 -- ---- two lists, in ACP at size 2: a quarter about Y twice, and a half once
 
 abbrev pub one : Frame
-one = record { shape = shapeOf 2 8 acp; layout = usualLayout; bytes = framed (λ i. i * i * 7 % 256) 24 }
+one = record { shape = shapeOf 2 8 acp; layout = usualLayout; bytes = framed 2 (λ i. i * i * 7 % 256) 24 }
 
 abbrev pub two : Frame
-two = record { shape = shapeOf 2 8 acp; layout = usualLayout; bytes = framed (λ i. i * i * 5 % 256) 24 }
+two = record { shape = shapeOf 2 8 acp; layout = usualLayout; bytes = framed 2 (λ i. i * i * 5 % 256) 24 }
 
 abbrev pub quarters : List ConvertCall
 quarters = turned one (rotationℕ 1 0 1 0 ∷ rotationℕ 1 0 1 0 ∷ [])
@@ -74,7 +74,7 @@ pub record TwoLists : Type 0 where
 -- ---- a frame of size 2 and depth 12, with the sample 300 at index 3; and calls that name depth 8, and size 1 or size 3
 
 abbrev pub deep : Frame
-deep = record { shape = shapeOf 2 12 cmp; layout = usualLayout; bytes = framed (λ i. cond (eqb i 3) 300 (10 + i)) 24 }
+deep = record { shape = shapeOf 2 12 cmp; layout = usualLayout; bytes = framed 2 (λ i. cond (eqb i 3) 300 (10 + i)) 24 }
 
 -- lent the first 12 of the frame's 48 bytes
 abbrev pub namesSmaller : ConvertCall

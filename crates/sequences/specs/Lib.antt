@@ -3,6 +3,6 @@ pub mod Model
 pub mod Runs
 pub mod Demand3
 pub mod Existence
-pub mod Examples
+pub mod ListExamples
 pub mod Excluded
 pub mod Twice

@@ -1,4 +1,4 @@
-pub mod Filling
+pub mod LineNumbers
 pub mod Walking
 pub mod Adjusting
 pub mod Parts

@@ -1,15 +1,17 @@
-// T + 32 along a stretch of rays, for the columns and for the rows: guessed and confirmed, or by division where a guess is not confirmed.
+// T + 32 along a stretch of rays on one face, for the columns and for the rows: guessed and confirmed, or by division
+// where a guess is not confirmed. A table of positions has that of column j at index j, and that of its row at 512 + j.
 ghost use mathlib.Core.Path.{_≡_};
 ghost use mathlib.Core.Bool.{true};
 ghost use Prim.Native.Nat.{_≤_, _<_};
 ghost use lib.IntN.{pos, natAbs, _+ℤ_, _*ℤ_};
 ghost use lib.ListN.{length};
 ghost use Rattle.plain.specs.Walks.{walk};
-ghost use Rattle.positions.specs.Lines.{lineAt, Even, Stretch, Positioned, Kept};
-ghost use Rattle.reciprocals.specs.Reciprocals.{Distances, Reciprocals};
+ghost use Rattle.positions.specs.RayLines.{lineAt, LineInRange, Stretch, Positioned};
+ghost use Rattle.reciprocals.specs.Reciprocals.{Reciprocals};
 ghost use Rattle.stretches.specs.Numbers.{sumLine, Wide, Ahead, Numbers, Evenly};
 use cubemap::Format;
 use plain::Walk;
+use positions::FaceLines;
 use positions::Line;
 use reciprocals::Scale;
 
@@ -17,40 +19,43 @@ use reciprocals::Scale;
 
 // The sum of two lines.
 fn sum_of(a: Line, b: Line) -> Line
-    requires { ⌜ Even a × Even b ⌝ }
+    requires { ⌜ LineInRange a × LineInRange b ⌝ }
     ensures { λ r. ⌜ r ≡ sumLine a b ⌝ }
 {
-    let at = a.at;
-    let by = a.by;
-    let more = b.at;
-    let more_by = b.by;
+    let start = a.start;
+    let slope = a.slope;
+    let more_start = b.start;
+    let more_slope = b.slope;
     Line {
-        at: at + more,
-        by: by + more_by,
+        start: start + more_start,
+        slope: slope + more_slope,
     }
 }
 
 // A number of a line that is not negative. 32 bits hold it, and four such are found at once.
-fn number_at(at: i32, by: i32, a: i64) -> u32
-    requires { ⌜ (natAbs at ≤ 1073741822) × (natAbs a ≤ 65536) ⌝ }
-    requires { ⌜ (pos (natAbs (at +ℤ a *ℤ by)) ≡ at +ℤ a *ℤ by) × (natAbs (at +ℤ a *ℤ by) ≤ 1073741822) ⌝ }
-    ensures { λ r. ⌜ r ≡ natAbs (at +ℤ a *ℤ by) ⌝ }
+fn number_at(start: i32, slope: i32, a: i64) -> u32
+    requires { ⌜ (natAbs start ≤ 1073741822) × (natAbs a ≤ 65536) ⌝ }
+    requires { ⌜ (pos (natAbs (start +ℤ a *ℤ slope)) ≡ start +ℤ a *ℤ slope)
+        × (natAbs (start +ℤ a *ℤ slope) ≤ 1073741822) ⌝ }
+    ensures { λ r. ⌜ r ≡ natAbs (start +ℤ a *ℤ slope) ⌝ }
 {
-    (at + a as i32 * by) as u32
+    (start + a as i32 * slope) as u32
 }
 
 // The numbers of a line along a stretch.
-fn line_along(line: Line, coordinates: &[i64; 512], from: u64, to: u64, numbers: &mut [u32; 512])
-    requires { ⌜ Ahead line (now coordinates) from to × (from ≤ to) × (length (now numbers) ≡ 512) ⌝ }
-    ensures { λ _. ⌜ Numbers line (now (coordinates .entry)) from to (now (numbers .exit)) × (length (now (numbers .exit)) ≡ 512) ⌝ }
+fn line_numbers(line: Line, coordinates: &[i64], numbers: &mut [u32])
+    requires { ⌜ Ahead line (now coordinates) × (length (now coordinates) ≤ length (now numbers)) ⌝ }
+    ensures { λ _. ⌜ Numbers line (now (coordinates .entry)) (now (numbers .exit))
+        × (length (now (numbers .exit)) ≡ length (now (numbers .entry))) ⌝ }
 {
-    let first = line.at;
-    let step = line.by;
-    let at = first as i32;
-    let by = step as i32;
-    let mut j = from;
-    while j < to {
-        numbers[j as usize] = number_at(at, by, coordinates[j as usize]);
+    let wide_start = line.start;
+    let wide_slope = line.slope;
+    let start = wide_start as i32;
+    let slope = wide_slope as i32;
+    let count = coordinates.len();
+    let mut j: usize = 0;
+    while j < count {
+        numbers[j] = number_at(start, slope, coordinates[j]);
         j += 1;
     }
 }
@@ -58,13 +63,13 @@ fn line_along(line: Line, coordinates: &[i64; 512], from: u64, to: u64, numbers:
 // The numbers of a line from a column on, each 2 further than the one before.
 fn walk_from(line: Line, a: i64) -> Walk
     requires { ⌜ Wide line × (natAbs a ≤ 65536) ⌝ }
-    ensures { λ r. ⌜ r ≡ walk (lineAt line a) (pos 2 *ℤ line .by) ⌝ }
+    ensures { λ r. ⌜ r ≡ walk (lineAt line a) (pos 2 *ℤ line .slope) ⌝ }
 {
-    let at = line.at;
-    let by = line.by;
+    let start = line.start;
+    let slope = line.slope;
     Walk {
-        at: at + a * by,
-        by: 2 * by,
+        start: start + a * slope,
+        slope: 2 * slope,
     }
 }
 
@@ -74,164 +79,139 @@ fn walk_from(line: Line, a: i64) -> Walk
 fn by_division(
     format: Format,
     size: u64,
-    across: Line,
-    down: Line,
-    distance: Line,
-    coordinates: &[i64; 512],
-    from: u64,
-    to: u64,
-    columns: &mut [u32; 512],
-    rows: &mut [u32; 512],
+    lines: FaceLines,
+    coordinates: &[i64],
+    positions: &mut [u32],
 )
-    requires { ⌜ Stretch size across distance (now coordinates) from to × Stretch size down distance (now coordinates) from to ⌝ }
-    requires { ⌜ (length (now columns) ≡ 512) × (length (now rows) ≡ 512) ⌝ }
-    ensures { λ _. ⌜ Positioned format size across distance (now (coordinates .entry)) from to (now (columns .exit))
-        × Positioned format size down distance (now (coordinates .entry)) from to (now (rows .exit))
-        × (length (now (columns .exit)) ≡ 512) × (length (now (rows .exit)) ≡ 512) ⌝ }
+    requires { ⌜ Stretch size (lines .across) (lines .distance) (now coordinates)
+        × Stretch size (lines .down) (lines .distance) (now coordinates) × (length (now positions) ≡ 1024) ⌝ }
+    ensures { λ _. ⌜ Positioned format size (lines .across) (lines .distance) (now (coordinates .entry))
+        0 (now (positions .exit))
+        × Positioned format size (lines .down) (lines .distance) (now (coordinates .entry))
+        512 (now (positions .exit))
+        × (length (now (positions .exit)) ≡ 1024) ⌝ }
 {
+    let across = lines.across;
+    let down = lines.down;
+    let distance = lines.distance;
+    let count = coordinates.len();
+    let end = 512 + count;
     positions::positions_by_division(
         format,
         size,
         across,
         distance,
         coordinates,
-        from,
-        to,
-        columns,
+        &mut positions[0..count],
     );
-    positions::positions_by_division(format, size, down, distance, coordinates, from, to, rows);
+    positions::positions_by_division(
+        format,
+        size,
+        down,
+        distance,
+        coordinates,
+        &mut positions[512..end],
+    );
 }
 
 // ---- CMP
 
-// T + 32 in CMP of each column of a stretch, and of its row; false where they are not evenly spaced, or few, or where a guess is not confirmed.
+// T + 32 in CMP of each column of a stretch, and of its row; false where they are not evenly spaced, or few, or where a
+// guess is not confirmed.
 fn plain_stretch(
     evenly: bool,
     size: u64,
-    across: Line,
-    down: Line,
-    distance: Line,
-    coordinates: &[i64; 512],
-    from: u64,
-    to: u64,
+    lines: FaceLines,
+    coordinates: &[i64],
     guesses: &mut [u64; 512],
-    columns: &mut [u32; 512],
-    rows: &mut [u32; 512],
+    positions: &mut [u32; 1024],
 ) -> bool
-    requires { ⌜ Stretch size across distance (now coordinates) from to × Stretch size down distance (now coordinates) from to ⌝ }
-    requires { ⌜ (from < to) × (evenly ≡ true → Evenly (now coordinates) from to) ⌝ }
-    requires { ⌜ (length (now guesses) ≡ 512) × (length (now columns) ≡ 512) × (length (now rows) ≡ 512) ⌝ }
-    ensures { λ r. ⌜ (r ≡ true → Positioned Format.Cmp size across distance (now (coordinates .entry)) from to (now (columns .exit))
-        × Positioned Format.Cmp size down distance (now (coordinates .entry)) from to (now (rows .exit)))
-        × (length (now (guesses .exit)) ≡ 512) × (length (now (columns .exit)) ≡ 512) × (length (now (rows .exit)) ≡ 512) ⌝ }
+    requires { ⌜ Stretch size (lines .across) (lines .distance) (now coordinates)
+        × Stretch size (lines .down) (lines .distance) (now coordinates) ⌝ }
+    requires { ⌜ (0 < length (now coordinates)) × (evenly ≡ true → Evenly (now coordinates)) ⌝ }
+    requires { ⌜ (length (now guesses) ≡ 512) × (length (now positions) ≡ 1024) ⌝ }
+    ensures { λ r. ⌜ (r ≡ true → Positioned Format.Cmp size (lines .across) (lines .distance) (now (coordinates .entry))
+        0 (now (positions .exit))
+        × Positioned Format.Cmp size (lines .down) (lines .distance) (now (coordinates .entry))
+        512 (now (positions .exit)))
+        × (length (now (guesses .exit)) ≡ 512) × (length (now (positions .exit)) ≡ 1024) ⌝ }
 {
     if !evenly {
         return false;
     }
-    if to - from < 32 {
+    let count = coordinates.len();
+    if count < 32 {
         return false;
     }
-    let a = coordinates[from as usize];
+    let across = lines.across;
+    let down = lines.down;
+    let distance = lines.distance;
+    let a = coordinates[0];
     let s = walk_from(sum_of(across, distance), a);
     let t = walk_from(sum_of(down, distance), a);
     let d = walk_from(distance, a);
-    plain::plain_along(size, s, t, d, from, to - from, guesses, columns, rows)
+    plain::plain_positions(size, s, t, d, count as u64, guesses, positions)
 }
 
 // T + 32 in CMP of each column of a stretch, and of its row.
-fn cmp_along(
+fn cmp_positions(
     evenly: bool,
     size: u64,
-    across: Line,
-    down: Line,
-    distance: Line,
-    coordinates: &[i64; 512],
-    from: u64,
-    to: u64,
+    lines: FaceLines,
+    coordinates: &[i64],
     guesses: &mut [u64; 512],
-    columns: &mut [u32; 512],
-    rows: &mut [u32; 512],
+    positions: &mut [u32; 1024],
 )
-    requires { ⌜ Stretch size across distance (now coordinates) from to × Stretch size down distance (now coordinates) from to ⌝ }
-    requires { ⌜ (from < to) × (evenly ≡ true → Evenly (now coordinates) from to) ⌝ }
-    requires { ⌜ (length (now guesses) ≡ 512) × (length (now columns) ≡ 512) × (length (now rows) ≡ 512) ⌝ }
-    ensures { λ _. ⌜ Positioned Format.Cmp size across distance (now (coordinates .entry)) from to (now (columns .exit))
-        × Positioned Format.Cmp size down distance (now (coordinates .entry)) from to (now (rows .exit))
-        × (length (now (guesses .exit)) ≡ 512) × (length (now (columns .exit)) ≡ 512) × (length (now (rows .exit)) ≡ 512) ⌝ }
+    requires { ⌜ Stretch size (lines .across) (lines .distance) (now coordinates)
+        × Stretch size (lines .down) (lines .distance) (now coordinates) ⌝ }
+    requires { ⌜ (0 < length (now coordinates)) × (evenly ≡ true → Evenly (now coordinates)) ⌝ }
+    requires { ⌜ (length (now guesses) ≡ 512) × (length (now positions) ≡ 1024) ⌝ }
+    ensures { λ _. ⌜ Positioned Format.Cmp size (lines .across) (lines .distance) (now (coordinates .entry))
+        0 (now (positions .exit))
+        × Positioned Format.Cmp size (lines .down) (lines .distance) (now (coordinates .entry))
+        512 (now (positions .exit))
+        × (length (now (guesses .exit)) ≡ 512) × (length (now (positions .exit)) ≡ 1024) ⌝ }
 {
-    let told = plain_stretch(
-        evenly,
-        size,
-        across,
-        down,
-        distance,
-        coordinates,
-        from,
-        to,
-        guesses,
-        columns,
-        rows,
-    );
-    if told {
+    if plain_stretch(evenly, size, lines, coordinates, guesses, positions) {
         return;
     }
-    by_division(
-        Format::Cmp,
-        size,
-        across,
-        down,
-        distance,
-        coordinates,
-        from,
-        to,
-        columns,
-        rows,
-    );
+    by_division(Format::Cmp, size, lines, coordinates, positions);
 }
 
 // ---- ACP
 
-// T + 32 in ACP of each column of a part of a stretch, for one line of its rays: by the reciprocals, or by division where a bracket does not tell.
+// T + 32 in ACP of each column of a part of a stretch, for one line of its rays, in the place of its sum: by the
+// reciprocals, or by division where a bracket does not tell.
 fn acp_part(
     shift: u64,
     size: u64,
     line: Line,
     distance: Line,
-    coordinates: &[i64; 512],
-    from: u64,
-    to: u64,
-    distances: &[u32; 512],
-    reciprocals: &[u32; 512],
-    sums: &[u32; 512],
-    table: &mut [u32; 512],
+    coordinates: &[i64],
+    distances: &[u32],
+    reciprocals: &[u32],
+    table: &mut [u32],
 )
-    requires { ⌜ Stretch size line distance (now coordinates) from to × Numbers distance (now coordinates) from to (now distances) ⌝ }
-    requires { ⌜ (shift ≤ 29) × Reciprocals shift (now distances) (now reciprocals) from to ⌝ }
-    requires { ⌜ Numbers (sumLine line distance) (now coordinates) from to (now sums) × (length (now table) ≡ 512) ⌝ }
-    ensures { λ _. ⌜ Positioned Format.Acp size line distance (now (coordinates .entry)) from to (now (table .exit))
-        × Kept from (now (table .entry)) (now (table .exit)) × (length (now (table .exit)) ≡ 512) ⌝ }
+    requires { ⌜ Stretch size line distance (now coordinates) × Numbers distance (now coordinates) (now distances)
+        × (shift ≤ 29) × Reciprocals shift (now distances) (now reciprocals) 0 (length (now coordinates))
+        × Numbers (sumLine line distance) (now coordinates) (now table) ⌝ }
+    requires { ⌜ (length (now distances) ≡ length (now coordinates))
+        × (length (now reciprocals) ≡ length (now coordinates)) × (length (now table) ≡ length (now coordinates)) ⌝ }
+    ensures { λ _. ⌜ Positioned Format.Acp size line distance (now (coordinates .entry)) 0 (now (table .exit))
+        × (length (now (table .exit)) ≡ length (now (table .entry))) ⌝ }
 {
-    if adjusted::adjusted_along(size, shift, sums, distances, reciprocals, from, to, table) {
+    if adjusted::adjusted_positions(size, shift, distances, reciprocals, table) {
         return;
     }
-    positions::positions_by_division(
-        Format::Acp,
-        size,
-        line,
-        distance,
-        coordinates,
-        from,
-        to,
-        table,
-    );
+    positions::positions_by_division(Format::Acp, size, line, distance, coordinates, table);
 }
 
 // Where a part that begins at column j ends: it has 64 columns, or those that are left.
-fn part_end(j: u64, to: u64) -> u64
-    requires { ⌜ (j < to) × (to ≤ 512) ⌝ }
-    ensures { λ r. ⌜ (j < r) × (r ≤ to) ⌝ }
+fn part_end(j: usize, count: usize) -> usize
+    requires { ⌜ (j < count) × (count ≤ 512) ⌝ }
+    ensures { λ r. ⌜ (j < r) × (r ≤ count) ⌝ }
 {
-    if to - j < 64 { to } else { j + 64 }
+    if count - j < 64 { count } else { j + 64 }
 }
 
 // The same of each column of a stretch, part by part: a bracket that does not tell costs the divisions of one part.
@@ -240,143 +220,112 @@ fn acp_parts(
     size: u64,
     line: Line,
     distance: Line,
-    coordinates: &[i64; 512],
-    from: u64,
-    to: u64,
-    distances: &[u32; 512],
-    reciprocals: &[u32; 512],
-    sums: &[u32; 512],
-    table: &mut [u32; 512],
+    coordinates: &[i64],
+    distances: &[u32],
+    reciprocals: &[u32],
+    table: &mut [u32],
 )
-    requires { ⌜ Stretch size line distance (now coordinates) from to × Numbers distance (now coordinates) from to (now distances) ⌝ }
-    requires { ⌜ (shift ≤ 29) × Reciprocals shift (now distances) (now reciprocals) from to ⌝ }
-    requires { ⌜ Numbers (sumLine line distance) (now coordinates) from to (now sums) × (length (now table) ≡ 512) ⌝ }
-    ensures { λ _. ⌜ Positioned Format.Acp size line distance (now (coordinates .entry)) from to (now (table .exit))
-        × (length (now (table .exit)) ≡ 512) ⌝ }
+    requires { ⌜ Stretch size line distance (now coordinates) × Numbers distance (now coordinates) (now distances)
+        × (shift ≤ 29) × Reciprocals shift (now distances) (now reciprocals) 0 (length (now coordinates))
+        × Numbers (sumLine line distance) (now coordinates) (now table) ⌝ }
+    requires { ⌜ (length (now coordinates) ≤ length (now distances))
+        × (length (now coordinates) ≤ length (now reciprocals)) × (length (now table) ≡ length (now coordinates)) ⌝ }
+    ensures { λ _. ⌜ Positioned Format.Acp size line distance (now (coordinates .entry)) 0 (now (table .exit))
+        × (length (now (table .exit)) ≡ length (now (table .entry))) ⌝ }
 {
-    let mut j = from;
-    while j < to {
-        let next = part_end(j, to);
+    let count = coordinates.len();
+    let mut j: usize = 0;
+    while j < count {
+        let next = part_end(j, count);
         acp_part(
             shift,
             size,
             line,
             distance,
-            coordinates,
-            j,
-            next,
-            distances,
-            reciprocals,
-            sums,
-            table,
+            &coordinates[j..next],
+            &distances[j..next],
+            &reciprocals[j..next],
+            &mut table[j..next],
         );
         j = next;
     }
 }
 
-// T + 32 in ACP of each column of a stretch, for one line of its rays. `scale` tells whether the reciprocals of its distances are good.
+// T + 32 in ACP of each column of a stretch, for one line of its rays. `scale` tells whether the reciprocals of its
+// distances are good.
 fn acp_line(
     scale: Scale,
     size: u64,
     line: Line,
     distance: Line,
-    coordinates: &[i64; 512],
-    from: u64,
-    to: u64,
-    distances: &[u32; 512],
-    reciprocals: &[u32; 512],
-    sums: &mut [u32; 512],
-    table: &mut [u32; 512],
+    coordinates: &[i64],
+    distances: &[u32],
+    reciprocals: &[u32],
+    table: &mut [u32],
 )
-    requires { ⌜ Stretch size line distance (now coordinates) from to × Numbers distance (now coordinates) from to (now distances) ⌝ }
-    requires { ⌜ (scale .shift ≤ 29) × (scale .good ≡ true → Reciprocals (scale .shift) (now distances) (now reciprocals) from to) ⌝ }
-    requires { ⌜ (length (now sums) ≡ 512) × (length (now table) ≡ 512) ⌝ }
-    ensures { λ _. ⌜ Positioned Format.Acp size line distance (now (coordinates .entry)) from to (now (table .exit))
-        × (length (now (sums .exit)) ≡ 512) × (length (now (table .exit)) ≡ 512) ⌝ }
+    requires { ⌜ Stretch size line distance (now coordinates) × Numbers distance (now coordinates) (now distances)
+        × (scale .shift ≤ 29) × (scale .good ≡ true
+        → Reciprocals (scale .shift) (now distances) (now reciprocals) 0 (length (now coordinates))) ⌝ }
+    requires { ⌜ (length (now coordinates) ≤ length (now distances))
+        × (length (now coordinates) ≤ length (now reciprocals)) × (length (now table) ≡ length (now coordinates)) ⌝ }
+    ensures { λ _. ⌜ Positioned Format.Acp size line distance (now (coordinates .entry)) 0 (now (table .exit))
+        × (length (now (table .exit)) ≡ length (now (table .entry))) ⌝ }
 {
     let shift = scale.shift;
     let good = scale.good;
     if !good {
-        positions::positions_by_division(
-            Format::Acp,
-            size,
-            line,
-            distance,
-            coordinates,
-            from,
-            to,
-            table,
-        );
+        positions::positions_by_division(Format::Acp, size, line, distance, coordinates, table);
         return;
     }
-    line_along(sum_of(line, distance), coordinates, from, to, sums);
+    line_numbers(sum_of(line, distance), coordinates, table);
     acp_parts(
         shift,
         size,
         line,
         distance,
         coordinates,
-        from,
-        to,
         distances,
         reciprocals,
-        sums,
         table,
     );
 }
 
-// T + 32 in ACP of each column of a stretch, and of its row: both by the reciprocals of its distances, or by division where the columns are few.
-fn acp_along(
+// T + 32 in ACP of each column of a stretch, and of its row: the distances and their reciprocals serve both.
+fn acp_lines(
+    scale: Scale,
     size: u64,
-    across: Line,
-    down: Line,
-    distance: Line,
-    coordinates: &[i64; 512],
-    from: u64,
-    to: u64,
-    distances: &mut [u32; 512],
-    reciprocals: &mut [u32; 512],
-    sums: &mut [u32; 512],
-    columns: &mut [u32; 512],
-    rows: &mut [u32; 512],
+    lines: FaceLines,
+    coordinates: &[i64],
+    distances: &[u32],
+    reciprocals: &[u32],
+    positions: &mut [u32],
 )
-    requires { ⌜ Stretch size across distance (now coordinates) from to × Stretch size down distance (now coordinates) from to × (from < to) ⌝ }
-    requires { ⌜ (length (now distances) ≡ 512) × (length (now reciprocals) ≡ 512) × (length (now sums) ≡ 512)
-        × (length (now columns) ≡ 512) × (length (now rows) ≡ 512) ⌝ }
-    ensures { λ _. ⌜ Positioned Format.Acp size across distance (now (coordinates .entry)) from to (now (columns .exit))
-        × Positioned Format.Acp size down distance (now (coordinates .entry)) from to (now (rows .exit))
-        × (length (now (distances .exit)) ≡ 512) × (length (now (reciprocals .exit)) ≡ 512) × (length (now (sums .exit)) ≡ 512)
-        × (length (now (columns .exit)) ≡ 512) × (length (now (rows .exit)) ≡ 512) ⌝ }
+    requires { ⌜ Stretch size (lines .across) (lines .distance) (now coordinates)
+        × Stretch size (lines .down) (lines .distance) (now coordinates)
+        × Numbers (lines .distance) (now coordinates) (now distances) × (scale .shift ≤ 29) × (scale .good ≡ true
+        → Reciprocals (scale .shift) (now distances) (now reciprocals) 0 (length (now coordinates))) ⌝ }
+    requires { ⌜ (length (now coordinates) ≤ length (now distances))
+        × (length (now coordinates) ≤ length (now reciprocals)) × (length (now positions) ≡ 1024) ⌝ }
+    ensures { λ _. ⌜ Positioned Format.Acp size (lines .across) (lines .distance) (now (coordinates .entry))
+        0 (now (positions .exit))
+        × Positioned Format.Acp size (lines .down) (lines .distance) (now (coordinates .entry))
+        512 (now (positions .exit))
+        × (length (now (positions .exit)) ≡ 1024) ⌝ }
 {
-    if to - from < 16 {
-        by_division(
-            Format::Acp,
-            size,
-            across,
-            down,
-            distance,
-            coordinates,
-            from,
-            to,
-            columns,
-            rows,
-        );
-        return;
-    }
-    line_along(distance, coordinates, from, to, distances);
-    let scale = reciprocals::reciprocals_along(distances, from, to, reciprocals);
+    let across = lines.across;
+    let down = lines.down;
+    let distance = lines.distance;
+    let count = coordinates.len();
+    let end = 512 + count;
     acp_line(
         scale,
         size,
         across,
         distance,
         coordinates,
-        from,
-        to,
         distances,
         reciprocals,
-        sums,
-        columns,
+        &mut positions[0..count],
     );
     acp_line(
         scale,
@@ -384,71 +333,79 @@ fn acp_along(
         down,
         distance,
         coordinates,
-        from,
-        to,
         distances,
         reciprocals,
-        sums,
-        rows,
+        &mut positions[512..end],
+    );
+}
+
+// The same by the reciprocals of the distances, or by division where the columns are few.
+fn acp_positions(
+    size: u64,
+    lines: FaceLines,
+    coordinates: &[i64],
+    distances: &mut [u32; 512],
+    reciprocals: &mut [u32; 512],
+    positions: &mut [u32; 1024],
+)
+    requires { ⌜ Stretch size (lines .across) (lines .distance) (now coordinates)
+        × Stretch size (lines .down) (lines .distance) (now coordinates) × (0 < length (now coordinates)) ⌝ }
+    requires { ⌜ (length (now distances) ≡ 512) × (length (now reciprocals) ≡ 512) × (length (now positions) ≡ 1024) ⌝ }
+    ensures { λ _. ⌜ Positioned Format.Acp size (lines .across) (lines .distance) (now (coordinates .entry))
+        0 (now (positions .exit))
+        × Positioned Format.Acp size (lines .down) (lines .distance) (now (coordinates .entry))
+        512 (now (positions .exit))
+        × (length (now (distances .exit)) ≡ 512) × (length (now (reciprocals .exit)) ≡ 512)
+        × (length (now (positions .exit)) ≡ 1024) ⌝ }
+{
+    let count = coordinates.len();
+    if count < 16 {
+        by_division(Format::Acp, size, lines, coordinates, positions);
+        return;
+    }
+    let distance = lines.distance;
+    line_numbers(distance, coordinates, distances);
+    let scale = reciprocals::reciprocals_of(distances, 0, count as u64, reciprocals);
+    acp_lines(
+        scale,
+        size,
+        lines,
+        coordinates,
+        distances,
+        reciprocals,
+        positions,
     );
 }
 
 // ---- either format
 
-// T + 32 of each column of a stretch, and of its row. `evenly` tells whether its columns are evenly spaced; the other tables are scratch.
-pub fn positions_along(
+// T + 32 of each column of a stretch, and of its row. `evenly` tells whether its columns are evenly spaced; the
+// tables but the last are scratch.
+pub fn positions_on_face(
     format: Format,
     evenly: bool,
     size: u64,
-    across: Line,
-    down: Line,
-    distance: Line,
-    coordinates: &[i64; 512],
-    from: u64,
-    to: u64,
+    lines: FaceLines,
+    coordinates: &[i64],
     guesses: &mut [u64; 512],
     distances: &mut [u32; 512],
     reciprocals: &mut [u32; 512],
-    sums: &mut [u32; 512],
-    columns: &mut [u32; 512],
-    rows: &mut [u32; 512],
+    positions: &mut [u32; 1024],
 )
-    requires { ⌜ Stretch size across distance (now coordinates) from to × Stretch size down distance (now coordinates) from to ⌝ }
-    requires { ⌜ (from < to) × (evenly ≡ true → Evenly (now coordinates) from to) ⌝ }
-    requires { ⌜ (length (now guesses) ≡ 512) × (length (now distances) ≡ 512) × (length (now reciprocals) ≡ 512) × (length (now sums) ≡ 512)
-        × (length (now columns) ≡ 512) × (length (now rows) ≡ 512) ⌝ }
-    ensures { λ _. ⌜ Positioned format size across distance (now (coordinates .entry)) from to (now (columns .exit))
-        × Positioned format size down distance (now (coordinates .entry)) from to (now (rows .exit))
-        × (length (now (guesses .exit)) ≡ 512) × (length (now (distances .exit)) ≡ 512) × (length (now (reciprocals .exit)) ≡ 512)
-        × (length (now (sums .exit)) ≡ 512) × (length (now (columns .exit)) ≡ 512) × (length (now (rows .exit)) ≡ 512) ⌝ }
+    requires { ⌜ Stretch size (lines .across) (lines .distance) (now coordinates)
+        × Stretch size (lines .down) (lines .distance) (now coordinates) ⌝ }
+    requires { ⌜ (0 < length (now coordinates)) × (evenly ≡ true → Evenly (now coordinates)) ⌝ }
+    requires { ⌜ (length (now guesses) ≡ 512) × (length (now distances) ≡ 512) × (length (now reciprocals) ≡ 512)
+        × (length (now positions) ≡ 1024) ⌝ }
+    ensures { λ _. ⌜ Positioned format size (lines .across) (lines .distance) (now (coordinates .entry))
+        0 (now (positions .exit))
+        × Positioned format size (lines .down) (lines .distance) (now (coordinates .entry))
+        512 (now (positions .exit))
+        × (length (now (guesses .exit)) ≡ 512) × (length (now (distances .exit)) ≡ 512)
+        × (length (now (reciprocals .exit)) ≡ 512) × (length (now (positions .exit)) ≡ 1024) ⌝ }
 {
     match format {
-        Format::Cmp => cmp_along(
-            evenly,
-            size,
-            across,
-            down,
-            distance,
-            coordinates,
-            from,
-            to,
-            guesses,
-            columns,
-            rows,
-        ),
-        Format::Acp => acp_along(
-            size,
-            across,
-            down,
-            distance,
-            coordinates,
-            from,
-            to,
-            distances,
-            reciprocals,
-            sums,
-            columns,
-            rows,
-        ),
+        Format::Cmp => cmp_positions(evenly, size, lines, coordinates, guesses, positions),
+        Format::Acp => acp_positions(size, lines, coordinates, distances, reciprocals, positions),
     }
 }

@@ -8,9 +8,9 @@ use lib.IntN.{ℤ, pos, negℤ, natAbs, _+ℤ_, _-ℤ_, _*ℤ_}
 use Rattle.arithmetic.proofs.Ring.{Expr, var, con, _⊕_, _⊗_, _⊝_, ⊖, solve}
 use Rattle.taps.specs.declared.Sizes.{Sizes}
 use Rattle.taps.specs.declared.Weights.{Weights}
-use Rattle.taps.specs.Taps.{Balanced, weighed, rowSum, gridSum}
+use Rattle.taps.specs.TapWeights.{Balanced, weighed, rowSum, gridSum}
 use Rattle.taps.specs.Fields.{sampleIn, Packed12, evens, odds, IsSizes, bySizes, Pair, field, fields, ofFields}
-use Rattle.taps.proofs.Sums.{grid-exchanged}
+use Rattle.taps.proofs.TapSums.{grid-exchanged}
 
 -- ---- the halves of a number
 

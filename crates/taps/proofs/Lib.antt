@@ -1,5 +1,5 @@
 pub mod Exchange
-pub mod Sums
+pub mod TapSums
 mod Fields
 mod Phases
 pub mod WeightTable

@@ -10,7 +10,7 @@ use Rattle.arithmetic.proofs.Searches.{all-at}
 use Rattle.arithmetic.proofs.Sizes.{equalℤ→eq}
 use Rattle.cubemap.specs.Samplers.{tapWeight}
 use Rattle.taps.specs.declared.Weights.{Weights}
-use Rattle.taps.specs.Taps.{weightsOf, Balanced}
+use Rattle.taps.specs.TapWeights.{weightsOf, Balanced}
 
 -- the test
 abbrev outerOK : ℤ → Bool

@@ -18,7 +18,7 @@ use Rattle.arithmetic.proofs.Tables.{allPairs, pair-at}
 use Rattle.arithmetic.proofs.Held.{held}
 use Rattle.cubemap.specs.Samplers.{tapWeight, overTaps}
 use Rattle.taps.specs.declared.Weights.{Weights}
-use Rattle.taps.specs.Taps.{IsWeights, weightsOf}
+use Rattle.taps.specs.TapWeights.{IsWeights, weightsOf}
 
 -- the weight of tap i at phase k
 abbrev entry : List ℤ → ℕ → ℕ → ℤ

@@ -1,2 +1,2 @@
-pub mod Taps
+pub mod TapWeights
 pub mod Fields

@@ -5,8 +5,8 @@ ghost use Prim.Native.Nat.{_+_, _*_, _^_, _≤_, _<_};
 ghost use lib.IntN.{pos, natAbs};
 ghost use lib.ListN.{length};
 ghost use Rattle.cubemap.specs.Frames.{sampleAt};
-ghost use Rattle.taps.specs.Taps as by;
-ghost use Rattle.taps.specs.Taps.{IsWeights, weightsOf, Balanced, weighed, rowSum};
+ghost use Rattle.taps.specs.TapWeights as by;
+ghost use Rattle.taps.specs.TapWeights.{IsWeights, weightsOf, Balanced, weighed, rowSum};
 ghost use Rattle.taps.specs.Fields.{sampleIn, Packed, Packed12, evens, odds, IsSizes, Pair, fields, ofFields};
 
 mod table;

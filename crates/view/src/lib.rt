@@ -1,5 +1,5 @@
-// The frame view: a frame as one thing, its bytes with shape and layout beside them. It is thin over `sample_at`, which has them apart; callers that
-// hold no view use `read_sample`.
+// The frame view: a frame as one thing, its bytes with shape and layout beside them. It is thin over `sample_at`, which
+// has them apart; callers that hold no view use `read_sample`. Samples are read from luma.
 ghost use mathlib.Core.Path.{_≡_};
 ghost use Rattle.cubemap.specs.Frames.{IsPlace, frameSample};
 ghost use Rattle.view.specs.Views.{shown, frameOf, Readable};
@@ -19,7 +19,8 @@ fn sample_at(bytes: &[u8], shape: Shape, layout: Layout, place: Place) -> u64
     requires { ⌜ Readable (frameOf shape layout (now bytes)) × IsPlace (shape .size) place ⌝ }
     ensures { λ r. ⌜ r ≡ frameSample (frameOf shape layout (now (bytes .entry))) place ⌝ }
 {
-    frame::sample(bytes, indices::index(shape.size, layout, place) as usize)
+    let luma = frame::luma(bytes, shape.size);
+    frame::sample(luma, strides::index(shape.size, layout, place) as usize)
 }
 
 // The view of a frame.

@@ -1,3 +1,3 @@
 mod Passing
-mod Filling
+mod WeightTables
 pub mod Weighing

@@ -8,8 +8,8 @@ use Rattle.arithmetic.proofs.Tests.{same-test}
 use Rattle.cubemap.specs.declared.Format.{Format}
 use Rattle.cubemap.proofs.Weights.{lengthSquared, Passes, passes-bound, IsWeight, weight-between, weight-only}
 use Rattle.weights.specs.declared.WeightTest.{WeightTest}
-use Rattle.weights.specs.Tests.{passing, TestOf, Bounds, IsMost}
-use Rattle.weights.specs.Rows.{WeightAt}
+use Rattle.weights.specs.WeightTests.{passing, TestOf, Bounds, IsMost}
+use Rattle.weights.specs.RowWeights.{WeightAt}
 
 -- ---- the numbers of the test fit
 

@@ -9,7 +9,7 @@ use Rattle.arithmetic.proofs.Sums.{sum-cong, both-cong}
 use Rattle.cubemap.specs.declared.Format.{Format}
 use Rattle.cubemap.specs.Score.{weight}
 use Rattle.cubemap.proofs.Weights.{weight-most, weight-symmetric, mirror-row}
-use Rattle.weights.specs.Rows.{Weighed, AtMost}
+use Rattle.weights.specs.RowWeights.{Weighed, AtMost}
 
 module _ {format : Format} {A n : ℕ} {weights : List ℕ} (w : Weighed format A n weights) where
   pub entry-most : 1 ≤ A → AtMost A 65536 weights

@@ -1,2 +1,2 @@
-pub mod Tests
-pub mod Rows
+pub mod WeightTests
+pub mod RowWeights

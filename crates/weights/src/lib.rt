@@ -5,8 +5,8 @@ ghost use lib.IntN.{natAbs};
 ghost use lib.ListN.{length};
 ghost use Rattle.cubemap.specs.PlaceToRay.{fromCentre};
 ghost use Rattle.cubemap.proofs.Weights.{lengthSquared};
-ghost use Rattle.weights.specs.Tests.{leftSide, passing, TestOf, Bounds, IsMost};
-ghost use Rattle.weights.specs.Rows.{WeightAt, Weighed};
+ghost use Rattle.weights.specs.WeightTests.{leftSide, passing, TestOf, Bounds, IsMost};
+ghost use Rattle.weights.specs.RowWeights.{WeightAt, Weighed};
 use cubemap::Format;
 
 // ---- the weight of a place

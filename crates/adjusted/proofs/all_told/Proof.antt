@@ -1,6 +1,6 @@
 -- `all_told` meets its contract: where both tests pass, both flags are low.
 use native.Mathlib.Omega.{arith}
-use Rattle.adjusted.proofs.Filling.{both-below}
+use Rattle.adjusted.proofs.Told.{both-below}
 use Rattle.adjusted.proofs.all_told.Statement.{statement}
 use Rattle.adjusted.proofs.all_told.Tie as tie
 

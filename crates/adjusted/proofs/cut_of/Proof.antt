@@ -5,16 +5,15 @@ use borrow.Author.Needs.{needs}
 use Rattle.adjusted.proofs.cut_of.Statement.{statement}
 use Rattle.adjusted.proofs.cut_of.Tie as tie
 
-record Within (from to low high : ℕ) : Type 0 where
-  begun : from ≤ low
+record Within (end low high : ℕ) : Type 0 where
   order : low < high
-  bounded : high ≤ to
+  bounded : high ≤ end
 
 abbrev Inv-loop : tie.InvT-loop
-Inv-loop sums distances from to sign low₀ high₀ low high = Within from to low high
+Inv-loop sums distances end sign low₀ high₀ low high = Within end low high
 
 abbrev μ-loop : tie.MeasureT-loop
-μ-loop sums distances from to sign low₀ high₀ low high = high - low
+μ-loop sums distances end sign low₀ high₀ low high = high - low
 
 returns : tie.Need-returns Inv-loop μ-loop
 returns c = search needs
@@ -32,7 +31,7 @@ negative-requires-2 : tie.Need-negative-requires-2 Inv-loop μ-loop
 negative-requires-2 c κs = search needs
 
 loop-holds : tie.Need-loop-holds Inv-loop μ-loop
-loop-holds c = record { begun = omega arith; order = search needs; bounded = omega arith }
+loop-holds c = record { order = search needs; bounded = omega arith }
 
 add-loop : tie.Need-add-loop Inv-loop μ-loop
 add-loop c = search needs
@@ -47,13 +46,13 @@ loop-less : tie.Need-loop-less Inv-loop μ-loop
 loop-less c = omega arith
 
 loop-again : tie.Need-loop-again Inv-loop μ-loop
-loop-again c = record { begun = omega arith; order = omega arith; bounded = omega arith }
+loop-again c = record { order = omega arith; bounded = omega arith }
 
 loop-less-2 : tie.Need-loop-less-2 Inv-loop μ-loop
 loop-less-2 c = omega arith
 
 loop-again-2 : tie.Need-loop-again-2 Inv-loop μ-loop
-loop-again-2 c = record { begun = omega arith; order = omega arith; bounded = omega arith }
+loop-again-2 c = record { order = omega arith; bounded = omega arith }
 
 pub cut-of-spec : {M : Type 1} → statement M
 cut-of-spec =

@@ -1,5 +1,5 @@
 -- `corner_sample` meets its contract: what is read behind the three tests is a place of a frame.
-use mathlib.Core.Path.{_≡_, sym, _∙_, ap₂, subst}
+use mathlib.Core.Path.{sym, ap₂, subst}
 use mathlib.Core.Bool.{_&&_}
 use native.Mathlib.Omega.{arith}
 use lib.Dec.{T}

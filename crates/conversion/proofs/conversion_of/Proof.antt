@@ -7,10 +7,15 @@ returns : tie.Need-returns
 returns c =
     let a = c .before .before .before .args in
     λ i. record {
-      source = record { size = a .shape .size; format = c .before .before .format-of .ensures i };
-      target = record { size = a .size; format = c .before .format-of2 .ensures i };
-      depth = a .shape .depth;
-      sampler = c .sampler-of .ensures i;
+      source = record {
+        cube = record { size = a .shape .size; format = c .before .before .format-of .ensures i };
+        depth = a .shape .depth;
+        sampler = c .sampler-of .ensures i;
+      };
+      target = record {
+        cube = record { size = a .size; format = c .before .format-of2 .ensures i };
+        layout = a .layout;
+      };
       rotation = a .rotation;
     }
 

@@ -1,4 +1,4 @@
--- `first_index` meets its contract: the steps lead to the first sample where the sixteen taps are inside the face.
+-- `first_index` meets its contract: the strides lead to the first sample where the sixteen taps are inside the face.
 use mathlib.Core.Path.{_≡_, sym, _∙_, ap, ap₂, subst}
 use mathlib.Core.Bool.{_&&_}
 use Prim.Native.Nat.{ℕ, _<_}
@@ -8,17 +8,16 @@ use lib.IntN.{ℤ, natAbs}
 use lib.Signed.{nonNeg}
 use mir.Syntax.{w32}
 use mir.Val.{toZ, ofZ}
-use borrow.Author.Needs.{needs}
 use Rattle.arithmetic.specs.Integers.{natural}
 use Rattle.arithmetic.proofs.Sizes.{natAbs-natural}
 use Rattle.arithmetic.proofs.Tests.{passes, fails, and-left, and-right, cond-true, cond-false}
 use Rattle.arithmetic.proofs.Narrow.{Narrow, read-small, narrowed, cast-ok}
-use Rattle.indices.specs.declared.FaceSteps.{FaceSteps}
-use Rattle.indices.specs.Steps.{stepped}
-use Rattle.indices.proofs.Stepping.{not-negative}
-use Rattle.cubic.specs.Lines.{firstOf, inFace, firstTap}
-use Rattle.cubic.proofs.Values.{Inside, inside}
-use Rattle.cubic.proofs.Lines.{first-inside}
+use Rattle.strides.specs.declared.Strides.{Strides}
+use Rattle.strides.specs.FaceStrides.{indexBy}
+use Rattle.strides.proofs.StrideIndices.{askable}
+use Rattle.cubic.specs.InsideTaps.{firstTap, inFace, firstOf}
+use Rattle.cubic.proofs.CubicValues.{Inside, inside}
+use Rattle.cubic.proofs.InsideTaps.{first-inside}
 use Rattle.cubic.proofs.first_index.Statement.{statement}
 use Rattle.cubic.proofs.first_index.Tie as tie
 
@@ -30,13 +29,15 @@ module _ (c : tie.After-in-face2) where
   abbrev A : ℕ
   A = start .args .size
 
-  column : Narrow (ofZ w32 (c .before .before .before .first-tap .result)) (firstTap (start .args .column)) 514
-  column = let e = c .before .before .before .first-tap .ensures in
-      subst (λ z. Narrow (ofZ w32 (c .before .before .before .first-tap .result)) z 514) (e .0) (narrowed (c .before .before .before .first-tap .result) (e .1) tt)
+  column : Narrow (ofZ w32 (c .before .before .before .first-tap .result)) (firstTap (start .args .column)) 515
+  column =
+      let f = c .before .before .before .first-tap in
+      subst (λ z. Narrow (ofZ w32 (f .result)) z 515) (f .ensures .0) (narrowed (f .result) (f .ensures .1) tt)
 
-  row : Narrow (ofZ w32 (c .before .before .first-tap2 .result)) (firstTap (start .args .row)) 514
-  row = let e = c .before .before .first-tap2 .ensures in
-      subst (λ z. Narrow (ofZ w32 (c .before .before .first-tap2 .result)) z 514) (e .0) (narrowed (c .before .before .first-tap2 .result) (e .1) tt)
+  row : Narrow (ofZ w32 (c .before .before .first-tap2 .result)) (firstTap (start .args .row)) 515
+  row =
+      let f = c .before .before .first-tap2 in
+      subst (λ z. Narrow (ofZ w32 (f .result)) z 515) (f .ensures .0) (narrowed (f .result) (f .ensures .1) tt)
 
   tested : (c .before .in-face .result && c .in-face2 .result) ≡ (inFace A (firstTap (start .args .column)) && inFace A (firstTap (start .args .row)))
   tested = ap₂ _&&_ (c .before .in-face .ensures ∙ ap (inFace A) (column .is)) (c .in-face2 .ensures ∙ ap (inFace A) (row .is))
@@ -46,8 +47,8 @@ module _ (c : tie.Then1) where
   abbrev both : tie.After-in-face2
   both = c .before
 
-  abbrev s : FaceSteps
-  s = start both .args .steps
+  abbrev s : Strides
+  s = start both .args .on
 
   abbrev x : ℤ
   x = firstTap (start both .args .column)
@@ -81,26 +82,24 @@ module _ (c : tie.Then1) where
   first-ok : firstOf s (natural x) < A both
   first-ok = first-inside s (natural x) (across .fits)
 
-  not-below : T (nonNeg (stepped s (firstOf s (natural x)) (natural y)))
-  not-below = not-negative (start both .pre .0) (firstOf s (natural x)) (natural y) first-ok (omega (arith, down .fits))
-
-first-is : (c : tie.After-first-in-line) → c .first-in-line .result ≡ firstOf (s (c .before)) (natural (x (c .before)))
-first-is c = c .first-in-line .ensures ∙ ap (firstOf (s (c .before))) (m-is (c .before))
+first-is : (c : tie.After-first-in-row) → c .first-in-row .result ≡ firstOf (s (c .before)) (natural (x (c .before)))
+first-is c = c .first-in-row .ensures ∙ ap (firstOf (s (c .before))) (m-is (c .before))
 
 returns : tie.Need-returns
 returns c =
-    let f : tie.After-first-in-line = c .before in
+    let f : tie.After-first-in-row = c .before in
     let t : tie.Then1 = f .before in
-    c .step-along .ensures
-    ∙ ap₂ (λ m n. natural (stepped (s t) m n)) (first-is f) (n-is t)
-    ∙ sym (cond-true (inFace (A (both t)) (x t) && inFace (A (both t)) (y t)) (natural (stepped (s t) (firstOf (s t) (natural (x t))) (natural (y t)))) 4294967295 (passed t))
+    c .index-in-row .ensures
+    ∙ ap₂ (λ m n. natural (indexBy (s t) m n)) (first-is f) (n-is t)
+    ∙ sym (cond-true (inFace (A (both t)) (x t) && inFace (A (both t)) (y t))
+    (natural (indexBy (s t) (firstOf (s t) (natural (x t))) (natural (y t)))) 4294967295 (passed t))
 
 returns-2 : tie.Need-returns-2
 returns-2 c =
     let b : tie.After-in-face2 = c .before in
     let a = start b .args in
     sym (cond-false (inFace (A b) (firstTap (a .column)) && inFace (A b) (firstTap (a .row)))
-    (natural (stepped (a .steps) (firstOf (a .steps) (natural (firstTap (a .column)))) (natural (firstTap (a .row))))) 4294967295
+    (natural (indexBy (a .on) (firstOf (a .on) (natural (firstTap (a .column)))) (natural (firstTap (a .row))))) 4294967295
     (fails (sym (tested b) ∙ c .if1 .left)))
 
 first-tap-requires : tie.Need-first-tap-requires
@@ -115,27 +114,21 @@ in-face-requires c κs = (c .before .before .pre .2, read-small (narrowed (c .be
 in-face-requires-2 : tie.Need-in-face-requires-2
 in-face-requires-2 c κs = (c .before .before .before .pre .2, read-small (narrowed (c .before .first-tap2 .result) (c .before .first-tap2 .ensures .1) tt))
 
-cast-first-in-line : tie.Need-cast-first-in-line
-cast-first-in-line c = cast-ok (column (both c)) tt (x-natural c)
+cast-first-in-row : tie.Need-cast-first-in-row
+cast-first-in-row c = cast-ok (column (both c)) tt (x-natural c)
 
-first-in-line-requires : tie.Need-first-in-line-requires
-first-in-line-requires c κs = let p = start (both c) .pre in (p .1, omega (arith, m-is c, across c .fits, p .2))
+first-in-row-requires : tie.Need-first-in-row-requires
+first-in-row-requires c κs = let p = start (both c) .pre in (p .1, omega (arith, m-is c, across c .fits, p .2))
 
-cast-step-along : tie.Need-cast-step-along
-cast-step-along c = cast-ok (row (both (c .before))) tt (y-natural (c .before))
+cast-index-in-row : tie.Need-cast-index-in-row
+cast-index-in-row c = cast-ok (row (both (c .before))) tt (y-natural (c .before))
 
-step-along-requires : tie.Need-step-along-requires
-step-along-requires c κs =
+index-in-row-requires : tie.Need-index-in-row-requires
+index-in-row-requires c κs =
     let t : tie.Then1 = c .before in
     let p = start (both t) .pre in
-    let first = first-is c in (
-      (p .0 .base-small, p .1, p .0 .down-small),
-      (
-        omega (arith, first, first-ok t, p .2),
-        omega (arith, n-is t, down t .fits, p .2),
-        subst (λ z. T (nonNeg z)) (sym (ap₂ (stepped (s t)) first (n-is t))) (not-below t),
-      ),
-    )
+    let m : c .first-in-row .result < A (both t) = omega (arith, first-is c, first-ok t) in
+    (askable (p .0) (p .2) (c .first-in-row .result) _ m (omega (arith, n-is t, down t .fits)), p .1)
 
 pub first-index-spec : {M : Type 1} → statement M
 first-index-spec =
@@ -145,9 +138,9 @@ first-index-spec =
     first-tap-requires-2
     in-face-requires
     in-face-requires-2
-    cast-first-in-line
-    first-in-line-requires
-    cast-step-along
-    step-along-requires
+    cast-first-in-row
+    first-in-row-requires
+    cast-index-in-row
+    index-in-row-requires
     returns
     returns-2)

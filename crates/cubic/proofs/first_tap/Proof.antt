@@ -5,11 +5,11 @@ use native.Mathlib.Omega.{arith}
 use lib.IntN.{pos}
 use borrow.Author.Needs.{needs}
 use Rattle.arithmetic.proofs.Narrow.{Narrow, read-small, narrow-nat, sub-ok, sub}
-use Rattle.cubic.proofs.Stretches.{tap-by-quotient}
+use Rattle.cubic.proofs.PositionTables.{tap-by-quotient}
 use Rattle.cubic.proofs.first_tap.Statement.{statement}
 use Rattle.cubic.proofs.first_tap.Tie as tie
 
-quotient : (c : tie.Start) → Narrow ((c .args .n + 32) / 64) (pos ((c .args .n + 32) / 64)) 512
+quotient : (c : tie.Start) → Narrow ((c .args .n + 32) / 64) (pos ((c .args .n + 32) / 64)) 513
 quotient c = narrow-nat (omega (arith, c .pre)) tt
 
 two : Narrow 2 (pos 2) 2

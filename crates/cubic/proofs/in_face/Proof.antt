@@ -11,11 +11,11 @@ use mir.Val.{ofZ}
 use borrow.Author.Tests.{le-leb}
 use borrow.Author.Needs.{needs}
 use Rattle.arithmetic.proofs.Narrow.{Narrow, narrowed, narrow-nat, add-ok, add}
-use Rattle.cubic.specs.Lines.{inFace}
+use Rattle.cubic.specs.InsideTaps.{inFace}
 use Rattle.cubic.proofs.in_face.Statement.{statement}
 use Rattle.cubic.proofs.in_face.Tie as tie
 
-first : (c : tie.Start) → Narrow (ofZ w32 (c .args .first)) (c .args .first) 514
+first : (c : tie.Start) → Narrow (ofZ w32 (c .args .first)) (c .args .first) 515
 first c = narrowed (c .args .first) (c .pre .1) tt
 
 three : Narrow 3 (pos 3) 3

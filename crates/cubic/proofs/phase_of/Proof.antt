@@ -2,7 +2,7 @@
 use mathlib.Core.Path.{sym}
 use native.Mathlib.Omega.{arith}
 use borrow.Author.Needs.{needs}
-use Rattle.cubic.proofs.Stretches.{phase-by-rest}
+use Rattle.cubic.proofs.PositionTables.{phase-by-rest}
 use Rattle.cubic.proofs.phase_of.Statement.{statement}
 use Rattle.cubic.proofs.phase_of.Tie as tie
 

@@ -7,9 +7,9 @@ use mir.Val.{ofZ}
 use borrow.Author.Needs.{needs}
 use Rattle.arithmetic.proofs.Held.{Held, held, held-literal, add-ok, add, read-result}
 use Rattle.cubemap.specs.Samplers.{tapPlace}
-use Rattle.taps.proofs.Sums.{packed-grid}
-use Rattle.cubic.specs.Stretches.{onFace}
-use Rattle.cubic.proofs.Rows.{packed-at, firstℤ}
+use Rattle.taps.proofs.TapSums.{packed-grid}
+use Rattle.strides.specs.FaceStrides.{sampleBy}
+use Rattle.cubic.proofs.TapRows.{packed-at, firstℤ}
 use Rattle.cubic.proofs.sum_by_places.Statement.{statement}
 use Rattle.cubic.proofs.sum_by_places.Tie as tie
 
@@ -20,7 +20,8 @@ returns : tie.Need-returns
 returns c =
     let start : tie.Start = c .before .before .before .before .before .before in
     let s : ℤ → ℤ → ℕ → ℕ =
-    λ y x i. onFace (start .args .plane .now) (start .args .steps) (tapPlace (start .args .size) 0 (x +ℤ pos i) y) in
+    λ y x i. sampleBy (start .args .plane .now) (start .args .strides .now)
+    (tapPlace (start .args .size) (start .args .face) (x +ℤ pos i) y) in
     let column = held (start .args .column) (start .pre .1 .0) tt .is in
     let row = held-row start in
     let r = c .sixteen .ensures in

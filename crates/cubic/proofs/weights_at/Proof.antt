@@ -1,7 +1,7 @@
 -- `weights_at` meets its contract: the weights of the position's phase.
 use mathlib.Core.Path.{_∙_, ap}
 use borrow.Author.Needs.{needs}
-use Rattle.taps.specs.Taps.{weightsOf}
+use Rattle.taps.specs.TapWeights.{weightsOf}
 use Rattle.cubic.proofs.weights_at.Statement.{statement}
 use Rattle.cubic.proofs.weights_at.Tie as tie
 

@@ -5,8 +5,8 @@ use native.Mathlib.Omega.{arith}
 use lib.Dec.{ltb, ltb→lt, lt→ltb}
 use borrow.Author.Needs.{needs}
 use Rattle.arithmetic.proofs.Tests.{cond-true, cond-false}
-use Rattle.differences.specs.Rows.{rowSquares, bothSquares}
-use Rattle.differences.proofs.Planes.{row-small}
+use Rattle.differences.specs.RowSquares.{rowSquares, bothSquares}
+use Rattle.differences.proofs.ScoredPlanes.{row-small}
 use Rattle.differences.proofs.Adding.{added-cong, added-then, sums-within, added-most}
 use Rattle.differences.proofs.add_both.Statement.{statement}
 use Rattle.differences.proofs.add_both.Tie as tie
@@ -14,15 +14,15 @@ use Rattle.differences.proofs.add_both.Tie as tie
 -- the square of a column in the row, in its mirror, and in both
 module _ (s : tie.Start) (m : ℕ) where
   abbrev of-row : ℕ
-  of-row = let a = s .args in rowSquares (a .first-row .now) (a .second .now) (a .second-steps) (a .row) m
+  of-row = let a = s .args in rowSquares (a .first-row .now) (a .second .now) (a .second-strides) (a .row) m
 
   abbrev of-mirror : ℕ
-  of-mirror = let a = s .args in rowSquares (a .first-mirror .now) (a .second .now) (a .second-steps) (a .mirror) m
+  of-mirror = let a = s .args in rowSquares (a .first-mirror .now) (a .second .now) (a .second-strides) (a .mirror) m
 
   abbrev of-both : ℕ
   of-both =
       let a = s .args in
-      bothSquares (a .first-row .now) (a .first-mirror .now) (a .second .now) (a .second-steps) (a .row) (a .mirror) m
+      bothSquares (a .first-row .now) (a .first-mirror .now) (a .second .now) (a .second-strides) (a .row) (a .mirror) m
 
 abbrev start : tie.Else1 → tie.Start
 start c = c .before .before .before .before

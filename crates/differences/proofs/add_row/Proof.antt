@@ -9,45 +9,59 @@ use borrow.Author.Needs.{needs}
 use Rattle.arithmetic.proofs.Held.{held}
 use Rattle.cubemap.specs.Frames.{sampleAt}
 use Rattle.cubemap.specs.Score.{squaredDifference}
-use Rattle.indices.specs.declared.FaceSteps.{FaceSteps}
-use Rattle.indices.specs.Steps.{sampleBySteps}
-use Rattle.differences.specs.Rows.{ScoredFace}
-use Rattle.differences.proofs.Planes.{mirrored-face, mirrored-twice}
+use Rattle.strides.specs.declared.Strides.{Strides}
+use Rattle.strides.specs.FaceStrides.{sampleOnFace}
+use Rattle.differences.specs.RowSquares.{ScoredFace}
+use Rattle.differences.proofs.ScoredPlanes.{scored-row, mirrored-face, mirrored-twice}
 use Rattle.differences.proofs.Adding.{added-cong}
 use Rattle.differences.proofs.add_row.Statement.{statement}
 use Rattle.differences.proofs.add_row.Tie as tie
 
--- the step across that is read
-step : (s : tie.Start) {n : ℕ} → let z = s .args .second-steps .across in ofZ w64 z ≡ n → z ≡ toZ w64 n
-step s e = sym (held _ (s .pre .0 .1 .stepped .leads .across-small) tt .is) ∙ ap (toZ w64) e
+-- the column stride that is read
+stride : (s : tie.Start) {n : ℕ} → let z = s .args .second-strides .column in ofZ w64 z ≡ n → z ≡ toZ w64 n
+stride s e = sym (held _ (s .pre .0 .1 .strided .leads .column-small) tt .is) ∙ ap (toZ w64) e
 
 -- ahead
 returns : tie.Need-returns
 returns c =
-    let t : tie.After-row-of = c .before .before in
+    let t : tie.After-unbroken-row = c .before .before in
     let a = t .before .before .before .before .before .args in
     added-cong (c .add-rows .ensures) (λ m h.
-    ap (squaredDifference (sampleAt (a .first-row .now) m)) (t .row-of .ensures .sample m h))
+    ap (squaredDifference (sampleAt (a .first-row .now) m)) (t .unbroken-row .ensures .sample m h))
 
-row-of-requires : tie.Need-row-of-requires
-row-of-requires c κs =
+unbroken-row-requires : tie.Need-unbroken-row-requires
+unbroken-row-requires c κs =
     let s : tie.Start = c .before .before .before .before in
-    (s .pre .0 .1, step s (c .if1 .taken), s .pre .1 .0)
+    (s .pre .0 .1 .strided, stride s (c .if1 .taken), s .pre .1 .0)
 
 add-rows-requires : tie.Need-add-rows-requires
-add-rows-requires c κs = search needs
+add-rows-requires c κs =
+    let s : tie.Start = c .before .before .before .before .before .before in (
+      s .pre .0 .1 .strided .size-most,
+      s .pre .0 .0,
+      scored-row (s .pre .0 .1) (s .pre .1 .0) (c .before .unbroken-row .ensures),
+      s .pre .1 .1,
+    )
 
 -- back
 abbrev start : tie.After-mirrored → tie.Start
 start c = c .before .before .before .before .before .before
 
+-- the row that runs ahead
+mirrored-is : (c : tie.After-mirrored) → let a = start c .args in
+    ScoredFace (a .size) (a .second .now) (c .mirrored .result)
+mirrored-is c =
+    let a = start c .args in
+    subst (ScoredFace (a .size) (a .second .now)) (sym (c .mirrored .ensures))
+    (mirrored-face (start c .pre .0 .1) (omega arith))
+
 returns-2 : tie.Need-returns-2
 returns-2 c =
-    let t : tie.After-row-of2 = c .before .before in
+    let t : tie.After-unbroken-row2 = c .before .before in
     let a = start (t .before) .args in
     added-cong (c .add-rows-against .ensures) (λ m h. ap (squaredDifference (sampleAt (a .first-row .now) m))
-    (t .row-of2 .ensures .sample (a .size - suc m) (omega arith)
-    ∙ ap (λ (s : FaceSteps). sampleBySteps (a .second .now) s (a .size - suc m) (a .row)) (t .before .mirrored .ensures)
+    (t .unbroken-row2 .ensures .sample (a .size - suc m) (omega arith)
+    ∙ ap (λ (s : Strides). sampleOnFace (a .second .now) s (a .size - suc m) (a .row)) (t .before .mirrored .ensures)
     ∙ mirrored-twice (start (t .before) .pre .0 .1) m (a .row) h))
 
 sub-if2 : tie.Need-sub-if2
@@ -56,20 +70,26 @@ sub-if2 c = search needs
 mirrored-requires : tie.Need-mirrored-requires
 mirrored-requires c κs = search needs
 
-row-of-requires-2 : tie.Need-row-of-requires-2
-row-of-requires-2 c κs =
+unbroken-row-requires-2 : tie.Need-unbroken-row-requires-2
+unbroken-row-requires-2 c κs =
     let s : tie.Start = start c in (
-      subst (ScoredFace _ _) (sym (c .mirrored .ensures)) (mirrored-face (s .pre .0 .1) (omega arith)),
-      ap (λ t. t .across) (c .mirrored .ensures) ∙ ap negℤ (step s (c .before .if2 .taken)),
+      mirrored-is c .strided,
+      ap (λ t. t .column) (c .mirrored .ensures) ∙ ap negℤ (stride s (c .before .if2 .taken)),
       s .pre .1 .0,
     )
 
 add-rows-against-requires : tie.Need-add-rows-against-requires
-add-rows-against-requires c κs = search needs
+add-rows-against-requires c κs =
+    let s : tie.Start = start (c .before .before) in (
+      s .pre .0 .1 .strided .size-most,
+      s .pre .0 .0,
+      scored-row (mirrored-is (c .before .before)) (s .pre .1 .0) (c .before .unbroken-row2 .ensures),
+      s .pre .1 .1,
+    )
 
--- by the steps
-add-by-steps-requires : tie.Need-add-by-steps-requires
-add-by-steps-requires c κs = search needs
+-- by the strides
+add-by-strides-requires : tie.Need-add-by-strides-requires
+add-by-strides-requires c κs = search needs
 
 returns-3 : tie.Need-returns-3
 returns-3 c = search needs
@@ -78,13 +98,13 @@ pub add-row-spec : {M : Type 1} → statement M
 add-row-spec =
     tie.close
     (tie.spec
-    row-of-requires
+    unbroken-row-requires
     add-rows-requires
     returns
     sub-if2
     mirrored-requires
-    row-of-requires-2
+    unbroken-row-requires-2
     add-rows-against-requires
     returns-2
-    add-by-steps-requires
+    add-by-strides-requires
     returns-3)

@@ -5,7 +5,6 @@ use borrow.Author.Needs.{needs}
 use Rattle.cubemap.specs.Interface.{accepted, isAccepted}
 use Rattle.cubemap.specs.Checks.{firstFailed, rotationInRange, equalChecks, foldChecks}
 use Rattle.cubemap.specs.Outcomes.{result, foldValues}
-use Rattle.cubemap.specs.Rotations.{compose}
 use Rattle.cubemap.proofs.Passed.{equal-passed}
 use Rattle.cubemap.proofs.Results.{refused-gives, accepted-gives, fold-is}
 use Rattle.checks.specs.Asking.{checkedMeans}

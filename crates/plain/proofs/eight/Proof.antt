@@ -7,10 +7,10 @@ use Rattle.plain.proofs.eight.Statement.{statement}
 use Rattle.plain.proofs.eight.Tie as tie
 
 abbrev Inv-loop : tie.InvT-loop
-Inv-loop p first second from guesses₀ guess₀ step₀ i₀ guesses guess step i = length guesses ≡ 512
+Inv-loop p first second at guesses₀ guess₀ step₀ i₀ guesses guess step i = length guesses ≡ 512
 
 abbrev μ-loop : tie.MeasureT-loop
-μ-loop p first second from guesses₀ guess₀ step₀ i₀ guesses guess step i = 8 - i
+μ-loop p first second at guesses₀ guess₀ step₀ i₀ guesses guess step i = 8 - i
 
 loop-holds : tie.Need-loop-holds Inv-loop μ-loop
 loop-holds c = search needs

@@ -7,10 +7,10 @@ use Rattle.plain.proofs.guess_bent.Statement.{statement}
 use Rattle.plain.proofs.guess_bent.Tie as tie
 
 abbrev Inv-loop : tie.InvT-loop
-Inv-loop lg eights size s t d from count guesses₀ span half end n0₀ i₀ guesses n0 i = length guesses ≡ 512
+Inv-loop lg eights size s t d count guesses₀ span half end n0₀ i₀ guesses n0 i = length guesses ≡ 512
 
 abbrev μ-loop : tie.MeasureT-loop
-μ-loop lg eights size s t d from count guesses₀ span half end n0₀ i₀ guesses n0 i = end - i
+μ-loop lg eights size s t d count guesses₀ span half end n0₀ i₀ guesses n0 i = end - i
 
 mul-span : tie.Need-mul-span Inv-loop μ-loop
 mul-span c = search needs
@@ -38,9 +38,6 @@ add-node-at-2 c = search needs
 
 node-at-requires-3 : tie.Need-node-at-requires-3 Inv-loop μ-loop
 node-at-requires-3 c κs = search needs
-
-add-parabola : tie.Need-add-parabola Inv-loop μ-loop
-add-parabola c = search needs
 
 parabola-requires : tie.Need-parabola-requires Inv-loop μ-loop
 parabola-requires c κs = search needs
@@ -78,17 +75,11 @@ node-at-requires-6 c κs = search needs
 sub-parabola : tie.Need-sub-parabola Inv-loop μ-loop
 sub-parabola c = search needs
 
-add-parabola-2 : tie.Need-add-parabola-2 Inv-loop μ-loop
-add-parabola-2 c = search needs
-
 parabola-requires-2 : tie.Need-parabola-requires-2 Inv-loop μ-loop
 parabola-requires-2 c κs = search needs
 
 guess-at-requires : tie.Need-guess-at-requires Inv-loop μ-loop
 guess-at-requires c κs = search needs
-
-add-guesses : tie.Need-add-guesses Inv-loop μ-loop
-add-guesses c = search needs
 
 sub-guesses : tie.Need-sub-guesses Inv-loop μ-loop
 sub-guesses c = search needs
@@ -117,7 +108,6 @@ guess-bent-spec =
     node-at-requires-2
     add-node-at-2
     node-at-requires-3
-    add-parabola
     parabola-requires
     add-i
     loop-less
@@ -130,10 +120,8 @@ guess-bent-spec =
     sub-node-at-3
     node-at-requires-6
     sub-parabola
-    add-parabola-2
     parabola-requires-2
     guess-at-requires
-    add-guesses
     sub-guesses
     mul-guesses
     element-write-guesses

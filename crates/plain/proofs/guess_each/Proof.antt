@@ -7,10 +7,10 @@ use Rattle.plain.proofs.guess_each.Statement.{statement}
 use Rattle.plain.proofs.guess_each.Tie as tie
 
 abbrev Inv-loop : tie.InvT-loop
-Inv-loop lg size s t d from first count guesses₀ i₀ guesses i = length guesses ≡ 512
+Inv-loop lg size s t d count guesses₀ i₀ guesses i = length guesses ≡ 512
 
 abbrev μ-loop : tie.MeasureT-loop
-μ-loop lg size s t d from first count guesses₀ i₀ guesses i = count - i
+μ-loop lg size s t d count guesses₀ i₀ guesses i = count - i
 
 loop-holds : tie.Need-loop-holds Inv-loop μ-loop
 loop-holds c = search needs
@@ -20,9 +20,6 @@ node-at-requires c κs = search needs
 
 guess-at-requires : tie.Need-guess-at-requires Inv-loop μ-loop
 guess-at-requires c κs = search needs
-
-add-guesses : tie.Need-add-guesses Inv-loop μ-loop
-add-guesses c = search needs
 
 mul-guesses : tie.Need-mul-guesses Inv-loop μ-loop
 mul-guesses c = search needs
@@ -51,7 +48,6 @@ guess-each-spec =
     loop-holds
     node-at-requires
     guess-at-requires
-    add-guesses
     mul-guesses
     element-write-guesses
     add-i

@@ -7,10 +7,10 @@ use Rattle.plain.proofs.parabola.Statement.{statement}
 use Rattle.plain.proofs.parabola.Tie as tie
 
 abbrev Inv-loop : tie.InvT-loop
-Inv-loop lg n0 n1 n2 from eights guesses₀ bend slope second first₀ p₀ i₀ guesses first p i = length guesses ≡ 512
+Inv-loop lg n0 n1 n2 at eights guesses₀ bend slope second first₀ p₀ i₀ guesses first p i = length guesses ≡ 512
 
 abbrev μ-loop : tie.MeasureT-loop
-μ-loop lg n0 n1 n2 from eights guesses₀ bend slope second first₀ p₀ i₀ guesses first p i = eights - i
+μ-loop lg n0 n1 n2 at eights guesses₀ bend slope second first₀ p₀ i₀ guesses first p i = eights - i
 
 wrapped-sum-requires : tie.Need-wrapped-sum-requires Inv-loop μ-loop
 wrapped-sum-requires c κs = search needs

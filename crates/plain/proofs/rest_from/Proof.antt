@@ -36,18 +36,20 @@ abbrev rest : Expr → Expr
 rest i = con (pos 4611686018427387903) ⊝ (var 0 ⊗ (var 1 ⊕ i ⊗ var 2) ⊕ (var 3 ⊕ i ⊗ var 4))
 
 module _ (A : ℕ) (s d : Walk) where
-  first-rest : {r : ℕ} → pos (natAbs (s .at)) ≡ s .at → pos (natAbs (d .at)) ≡ d .at
-      → r ≤ 281474976710656 → r ≡ natural (numeratorOf A (s .at) (d .at)) → pos (4611686018427387903 - r) ≡ restAt A s d 0
+  first-rest : {r : ℕ} → pos (natAbs (s .start)) ≡ s .start → pos (natAbs (d .start)) ≡ d .start
+      → r ≤ 281474976710656 → r ≡ natural (numeratorOf A (s .start) (d .start))
+      → pos (4611686018427387903 - r) ≡ restAt A s d 0
   first-rest {r} p q h is =
       sym (pos-sub 4611686018427387903 r (omega (arith, h))) ∙ ap (λ z. pos 4611686018427387903 -ℤ z) (ap pos is ∙ whole)
-      ∙ solve (pos (64 * A) ∷ s .at ∷ s .by ∷ d .at ∷ d .by ∷ []) (con (pos 4611686018427387903) ⊝ (var 0 ⊗ var 1 ⊕ var 3)) (rest (con (pos 0))) tt
+      ∙ solve (pos (64 * A) ∷ s .start ∷ s .slope ∷ d .start ∷ d .slope ∷ [])
+      (con (pos 4611686018427387903) ⊝ (var 0 ⊗ var 1 ⊕ var 3)) (rest (con (pos 0))) tt
     where
-      whole : pos (natural (numeratorOf A (s .at) (d .at))) ≡ numeratorOf A (s .at) (d .at)
+      whole : pos (natural (numeratorOf A (s .start) (d .start))) ≡ numeratorOf A (s .start) (d .start)
       whole = subst₂ (λ s d. pos (natural (numeratorOf A s d)) ≡ numeratorOf A s d) p q refl
 
-  rest-next : (i : ℕ) → restAt A s d i +ℤ negℤ (numeratorOf A (s .by) (d .by)) ≡ restAt A s d (i + 1)
+  rest-next : (i : ℕ) → restAt A s d i +ℤ negℤ (numeratorOf A (s .slope) (d .slope)) ≡ restAt A s d (i + 1)
   rest-next i =
-      solve (pos (64 * A) ∷ s .at ∷ s .by ∷ d .at ∷ d .by ∷ pos i ∷ [])
+      solve (pos (64 * A) ∷ s .start ∷ s .slope ∷ d .start ∷ d .slope ∷ pos i ∷ [])
       (rest (var 5) ⊕ ⊖ (var 0 ⊗ var 2 ⊕ var 4)) (rest (var 5 ⊕ con (pos 1))) tt
 
 module _ (c : tie.Start) where
@@ -60,22 +62,25 @@ module _ (c : tie.Start) where
   abbrev d : Walk
   d = c .args .d
 
-  s-small : natAbs (s .at) ≤ 2147483644
-  s-small = le-trans (c .pre .1 .at-small) (lit≤ tt)
+  s-small : natAbs (s .start) ≤ 2147483644
+  s-small = le-trans (c .pre .1 .start-small) (lit≤ tt)
 
-  d-small : natAbs (d .at) ≤ 2147483644
-  d-small = le-trans (c .pre .2 .at-small) (lit≤ tt)
+  d-small : natAbs (d .start) ≤ 2147483644
+  d-small = le-trans (c .pre .2 .start-small) (lit≤ tt)
 
--- the numerator of the first column, and what it moves by
-first : (c : tie.After-numerator) → let o = c .before .before .before in
-    Held (ofZ w64 (c .numerator .result)) (numeratorOf (A o) (s o .at) (d o .at)) 281474976710656
-first c = let o = c .before .before .before in numerator-held (A o) (s o .at) (d o .at) (s-small o) (d-small o) (c .numerator .ensures)
+-- the start of the numerator, and its slope
+start : (c : tie.After-numerator) → let o = c .before .before .before in
+    Held (ofZ w64 (c .numerator .result)) (numeratorOf (A o) (s o .start) (d o .start)) 281474976710656
+start c =
+    let o = c .before .before .before in
+    numerator-held (A o) (s o .start) (d o .start) (s-small o) (d-small o) (c .numerator .ensures)
 
-moving : (c : tie.After-numerator2) → let o = c .before .before .before .before .before .before in
-    Held (ofZ w64 (c .numerator2 .result)) (numeratorOf (A o) (s o .by) (d o .by)) 281474976710656
-moving c =
+slope : (c : tie.After-numerator2) → let o = c .before .before .before .before .before .before in
+    Held (ofZ w64 (c .numerator2 .result)) (numeratorOf (A o) (s o .slope) (d o .slope)) 281474976710656
+slope c =
     let o = c .before .before .before .before .before .before in
-    numerator-held (A o) (s o .by) (d o .by) (o .pre .1 .by-small) (o .pre .2 .by-small) (c .numerator2 .ensures)
+    numerator-held (A o) (s o .slope) (d o .slope) (o .pre .1 .slope-small) (o .pre .2 .slope-small)
+    (c .numerator2 .ensures)
 
 returns : tie.Need-returns
 returns c =
@@ -83,18 +88,24 @@ returns c =
     let n : tie.After-numerator = m .before .before .before in
     let o : tie.Start = n .before .before .before in
     record {
-      first = first-rest (A o) (s o) (d o) (o .pre .1 .at-ahead) (o .pre .2 .at-ahead) (rises-small (first n) (c .before .before .rise .ensures))
-          (rises (first n) (c .before .before .rise .ensures));
+      first = first-rest (A o) (s o) (d o) (o .pre .1 .start-ahead) (o .pre .2 .start-ahead)
+          (rises-small (start n) (c .before .before .rise .ensures))
+          (rises (start n) (c .before .before .rise .ensures));
       next = λ i.
-          ap₂ (λ u v. restAt (A o) (s o) (d o) i +ℤ (pos u -ℤ pos v)) (falls (moving m) (c .before .fall .ensures))
-          (rises (moving m) (c .rise2 .ensures))
-          ∙ ap (λ z. restAt (A o) (s o) (d o) i +ℤ z) (opposite-moves (numeratorOf (A o) (s o .by) (d o .by))) ∙ rest-next (A o) (s o) (d o) i;
-      few = (falls-small (moving m) (c .before .fall .ensures), rises-small (moving m) (c .rise2 .ensures));
+          ap₂ (λ u v. restAt (A o) (s o) (d o) i +ℤ (pos u -ℤ pos v)) (falls (slope m) (c .before .fall .ensures))
+          (rises (slope m) (c .rise2 .ensures))
+          ∙ ap (λ z. restAt (A o) (s o) (d o) i +ℤ z) (opposite-moves (numeratorOf (A o) (s o .slope) (d o .slope)))
+          ∙ rest-next (A o) (s o) (d o) i;
+      few = (falls-small (slope m) (c .before .fall .ensures), rises-small (slope m) (c .rise2 .ensures));
     }
 
 numerator-requires : tie.Need-numerator-requires
 numerator-requires c κs =
-    let o : tie.Start = c .before .before in (o .pre .0, read-small (held (s o .at) (s-small o) tt), read-small (held (d o .at) (d-small o) tt))
+    let o : tie.Start = c .before .before in (
+      o .pre .0,
+      read-small (held (s o .start) (s-small o) tt),
+      read-small (held (d o .start) (d-small o) tt),
+    )
 
 numerator-requires-2 : tie.Need-numerator-requires-2
 numerator-requires-2 c κs = search needs
@@ -103,7 +114,7 @@ rise-requires : tie.Need-rise-requires
 rise-requires c κs = tt
 
 sub-t7 : tie.Need-sub-t7
-sub-t7 c = omega (arith, rises-small (first (c .before .before .before .before)) (c .rise .ensures))
+sub-t7 c = omega (arith, rises-small (start (c .before .before .before .before)) (c .rise .ensures))
 
 fall-requires : tie.Need-fall-requires
 fall-requires c κs = search needs

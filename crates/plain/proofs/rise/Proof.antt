@@ -1,12 +1,8 @@
 -- `rise` meets its contract: the cast is of a number that is not negative.
 use mathlib.Core.Path.{_≡_, sym, _∙_, ap, subst}
 use mathlib.Core.Bool.{true, false}
-use Prim.Native.Nat.{ℕ}
 use lib.Dec.{T}
 use lib.IntN.{ℤ, pos, negsuc, natAbs}
-use lib.Signed.{ltZ}
-use mir.Syntax.{w64}
-use mir.Val.{toZ, ofZ}
 use mir.Facts.{toZ-ofZ}
 use Rattle.arithmetic.specs.Integers.{natural, isNegative}
 use Rattle.arithmetic.proofs.Held.{cast-not-below, tests-negative}

@@ -1,126 +1,299 @@
--- `convert_along` meets its contract: after each stretch the samples up to its end are placed, and every other byte is as it was.
-use mathlib.Core.Path.{_≡_, sym, _∙_, ap, subst}
+-- `convert_along` meets its contract: after each stretch the samples up to its end are placed.
+use mathlib.Core.Path.{_≡_, refl, sym, _∙_, ap, subst}
 use mathlib.Core.List.{List}
-use Prim.Native.Nat.{ℕ, _+_, _-_, _≤_, _<_}
+use Prim.Native.Nat.{ℕ, _+_, _*_, _-_, _≤_, _<_}
 use native.Mathlib.Omega.{arith}
-use lib.IntN.{ℤ, pos}
-use lib.ListN.{length, getD}
+use lib.IntN.{ℤ}
+use lib.ListN.{length}
 use mir.Syntax.{w64}
 use mir.Val.{ofZ}
+use borrow.Author.Needs.{needs}
+use borrow.Rule.Slice.PartMut.{putMid}
+use Rattle.arithmetic.specs.ListParts.{part}
+use Rattle.arithmetic.proofs.ListParts.{part-length}
 use Rattle.arithmetic.proofs.Held.{Held, held, read-small}
-use Rattle.cubemap.specs.RayToPlace.{faceOf}
+use Rattle.cubemap.specs.RayToPlace.{faceOf, locate}
+use Rattle.cubemap.specs.Samplers.{sampleFrom}
 use Rattle.cubemap.proofs.Faces.{chosen}
+use Rattle.cubemap.proofs.Framed.{framed-cong}
 use Rattle.cubemap.proofs.RotatedRays.{RotatedRay}
-use Rattle.cubemap.proofs.Rotations.{along}
 use Rattle.frame.specs.Placing.{placed}
-use Rattle.frame.proofs.Placing.{Placed, kept, none-placed, placed-run}
-use Rattle.resampling.specs.Plane.{Scratch, valueOn}
+use Rattle.frame.proofs.Placing.{Placed, kept, none-placed, placed-run, put-placed, placed-all}
+use Rattle.strides.specs.FaceStrides.{sampleBy}
+use Rattle.positions.specs.declared.FaceLines.{FaceLines}
+use Rattle.positions.specs.RayLines.{coordinateAt, Stretch, Positioned}
+use Rattle.resampling.specs.RowOfRays.{rayAt, RowReady, OneFace, linesOn, Scratch, valueOn}
+use Rattle.resampling.proofs.RowParts.{row-part, one-face-part, stretch-length, column-of}
+use Rattle.resampling.proofs.StretchRays.{across-stretch, down-stretch, located-at, positions}
 use Rattle.resampling.proofs.convert_along.Statement.{statement}
 use Rattle.resampling.proofs.convert_along.Tie as tie
 
 abbrev Inv-loop : tie.InvT-loop
-Inv-loop c source source-steps weights coordinates start ray-step at guesses₀ distances₀ reciprocals₀ sums₀ columns₀ rows₀ target₀ size from₀ guesses distances reciprocals
-    sums columns rows target from =
-    Placed at (λ j. valueOn c source source-steps (along start (getD coordinates j (pos 0)) ray-step)) target₀ target size from
-    × Scratch guesses distances reciprocals sums columns rows
+Inv-loop source strides weights coordinates _ _ _ _ target₀ reading rays _ _ _ count _ guesses distances reciprocals
+    positions target from =
+    Placed 2 0 (λ j. valueOn reading source strides (rayAt rays (coordinateAt coordinates j))) target₀ target count from
+    × Scratch guesses distances reciprocals positions
 
 abbrev μ-loop : tie.MeasureT-loop
-μ-loop c source source-steps weights coordinates start ray-step at guesses₀ distances₀ reciprocals₀ sums₀ columns₀ rows₀ target₀ size from₀ guesses distances reciprocals
-    sums columns rows target from = size - from
+μ-loop _ _ _ _ _ _ _ _ _ _ _ _ _ _ count _ _ _ _ _ _ from = count - from
 
 module _ (l : tie.At-loop Inv-loop μ-loop) where
   abbrev start : tie.Start Inv-loop μ-loop
-  start = l .before .before .before .before
+  start = l .before .before .before .before .before .before
 
-  abbrev size : ℕ
-  size = start .args .c .target .size
+  abbrev row : RowReady (start .args .row .rays) (start .args .coordinates .now)
+  row = start .pre .1 .0 .0
+
+  abbrev count : ℕ
+  count = length (start .args .coordinates .now)
 
   abbrev from : ℕ
   from = l .loop .from
 
   -- the coordinate of the column that a stretch begins with, and the value of a column
   abbrev coordinate : ℤ
-  coordinate = getD (start .args .coordinates .now) from (pos 0)
+  coordinate = coordinateAt (start .args .coordinates .now) from
 
   abbrev value : ℕ → ℕ
-  value j = valueOn (start .args .c) (start .args .source .now) (start .args .source-steps .now)
-      (along (start .args .start) (getD (start .args .coordinates .now) j (pos 0)) (start .args .ray-step))
+  value j = valueOn (start .args .row .reading) (start .args .source .now) (start .args .strides .now)
+      (rayAt (start .args .row .rays) (coordinateAt (start .args .coordinates .now) j))
 
-  held-coordinate : from < size → Held (ofZ w64 coordinate) coordinate 65536
-  held-coordinate h = held coordinate (start .pre .0 .1 .small from h) tt
+  held-coordinate : from < count → Held (ofZ w64 coordinate) coordinate 65536
+  held-coordinate h = held coordinate (row .small from h) tt
 
   same : length (l .loop .target) ≡ length (start .args .target .now)
-  same = kept (l .loop .inv .0) (start .pre .1 .0 .2)
-
-  -- one more stretch
-  next : {after : List ℕ} (to : ℕ) → from < to → to ≤ size → after ≡ placed (l .loop .target) (start .args .at + from) (λ j. value (from + j)) (to - from)
-      → Placed (start .args .at) value (start .args .target .now) after size to
-  next to h k e = record {
-    bounded = k;
-    holds = e
-        ∙ ap (λ bytes. placed bytes (start .args .at + from) (λ j. value (from + j)) (to - from)) (l .loop .inv .0 .holds)
-        ∙ placed-run (start .args .target .now) (start .args .at) value from (to - from) (omega (arith, start .pre .1 .0 .2))
-        ∙ ap (placed (start .args .target .now) (start .args .at) value) (joined h);
-  }
-    where
-      joined : from < to → from + (to - from) ≡ to
-      joined h = omega arith
+  same = kept 2 (l .loop .inv .0) (omega (arith, start .pre .1 .0 .1))
 
 loop-holds : tie.Need-loop-holds Inv-loop μ-loop
-loop-holds c = (none-placed _ _ _ _, c .before .before .before .pre .1 .1 .1)
+loop-holds c = (none-placed 2 _ 0 _ _, c .before .before .before .before .before .pre .1 .1)
 
-mul-face-along : tie.Need-mul-face-along Inv-loop μ-loop
-mul-face-along c = let h = start (c .before) .pre .1 .0 .0 in omega arith
+mul-face-at : tie.Need-mul-face-at Inv-loop μ-loop
+mul-face-at c = search needs
 
-element-copy-out-face-along : tie.Need-element-copy-out-face-along Inv-loop μ-loop
-element-copy-out-face-along c = let h = start (c .before) .pre .1 .0 .0 in omega arith
+shared-slice-copy-out-face-at : tie.Need-shared-slice-copy-out-face-at Inv-loop μ-loop
+shared-slice-copy-out-face-at c = search needs
 
-face-along-requires : tie.Need-face-along-requires Inv-loop μ-loop
-face-along-requires c κs =
+face-at-requires : tie.Need-face-at-requires Inv-loop μ-loop
+face-at-requires c κs =
     let l : tie.At-loop Inv-loop μ-loop = c .before .before in
-    let runs = start l .pre .0 .1 in
-    let h = held-coordinate l (omega arith) in (
-      runs .start-ok,
-      runs .step-ok,
+    let h = held-coordinate l (c .before .loop-test .taken) in (
+      row l .in-range,
       read-small h,
-      subst (λ u. RotatedRay (along (start l .args .start) u (start l .args .ray-step))) (sym (h .is)) (runs .leads (from l) (omega arith)),
+      subst (λ a. RotatedRay (rayAt (start l .args .row .rays) a)) (sym (h .is))
+          (row l .leads (from l) (c .before .loop-test .taken)),
     )
 
 -- the face that the stretch begins on
-module _ (c : tie.After-face-along Inv-loop μ-loop) where
+module _ (c : tie.After-face-at Inv-loop μ-loop) where
   abbrev l : tie.At-loop Inv-loop μ-loop
   l = c .before .before .before
 
-  face-is : c .face-along .result ≡ faceOf (along (start l .args .start) (coordinate l) (start l .args .ray-step))
-  face-is = c .face-along .ensures
-      ∙ ap (λ u. faceOf (along (start l .args .start) u (start l .args .ray-step))) (held-coordinate l (omega arith) .is)
+  abbrev inside : from l < count l
+  inside = c .before .before .loop-test .taken
 
-  face-below : c .face-along .result < 6
-  face-below = subst (λ f. f < 6) (sym face-is) (chosen _ (start l .pre .0 .1 .leads (from l) (omega arith) .nonzero) .face-ok)
+  face-is : c .face-at .result ≡ faceOf (rayAt (start l .args .row .rays) (coordinate l))
+  face-is = c .face-at .ensures
+      ∙ ap (λ a. faceOf (rayAt (start l .args .row .rays) a)) (held-coordinate l inside .is)
+
+  face-below : c .face-at .result < 6
+  face-below = subst (λ f. f < 6) (sym face-is) (chosen _ (row l .leads (from l) inside .nonzero) .face-ok)
 
 stretch-end-requires : tie.Need-stretch-end-requires Inv-loop μ-loop
-stretch-end-requires c κs = ((start (l c) .pre .0 .1, start (l c) .pre .1 .0 .0, omega arith), face-is c)
+stretch-end-requires c κs = ((row (l c), inside c), face-is c)
 
-convert-stretch-requires : tie.Need-convert-stretch-requires Inv-loop μ-loop
-convert-stretch-requires c κs =
-    let e : tie.After-stretch-end Inv-loop μ-loop = c .before .before .before .before .before .before .before in
-    let f : tie.After-face-along Inv-loop μ-loop = e .before in
-    let p = start (l f) .pre in
-    let i = l f .loop .inv in
-    let (above, below, one) = e .stretch-end .ensures in
-    (p .0, ((p .1 .0 .0, face-below f, above, below, one), (p .1 .0 .1, omega (arith, same (l f), p .1 .0 .2), p .1 .1 .0, i .1)))
+-- the stretch
+module _ (e : tie.After-stretch-end Inv-loop μ-loop) where
+  abbrev f : tie.After-face-at Inv-loop μ-loop
+  f = e .before
+
+  abbrev to : ℕ
+  to = e .stretch-end .result
+
+  order : from (l f) ≤ to
+  order = omega (arith, e .stretch-end .ensures .0)
+
+  abbrev end : to ≤ count (l f)
+  end = e .stretch-end .ensures .1
+
+  abbrev stretch : List ℤ
+  stretch = part (from (l f)) to (start (l f) .args .coordinates .now)
+
+  stretch-row : RowReady (start (l f) .args .row .rays) stretch
+  stretch-row = row-part (row (l f)) order end
+
+  one : OneFace (start (l f) .args .row .rays) stretch (f .face-at .result) 0 (length stretch)
+  one = one-face-part (row (l f)) order end (e .stretch-end .ensures .2)
+
+  -- the source's face size
+  abbrev A : ℕ
+  A = start (l f) .args .row .reading .cube .size
+
+  A-most : A ≤ 512
+  A-most = start (l f) .pre .0 .strided .size-most
+
+sub-columns : tie.Need-sub-columns Inv-loop μ-loop
+sub-columns c = order c
+
+mul-first : tie.Need-mul-first Inv-loop μ-loop
+mul-first c = omega (arith, order c, end c, row (l (f c)) .few)
+
+mul-last : tie.Need-mul-last Inv-loop μ-loop
+mul-last c = omega (arith, end c, row (l (f c)) .few)
+
+lines-on-requires : tie.Need-lines-on-requires Inv-loop μ-loop
+lines-on-requires c κs = (row (l (f c)) .in-range, face-below (f c))
+
+mul-positions-on-face : tie.Need-mul-positions-on-face Inv-loop μ-loop
+mul-positions-on-face c = omega (arith, inside (f (c .before)), row (l (f (c .before))) .few)
+
+sub-positions-on-face : tie.Need-sub-positions-on-face Inv-loop μ-loop
+sub-positions-on-face c = order (c .before)
+
+part-positions-on-face-start : tie.Need-part-positions-on-face-start Inv-loop μ-loop
+part-positions-on-face-start c = search needs
+
+part-positions-on-face-end : tie.Need-part-positions-on-face-end Inv-loop μ-loop
+part-positions-on-face-end c = search needs
+
+-- what the positions are asked, and told, of the lines as they were found
+module _ (c : tie.After-lines-on Inv-loop μ-loop) where
+  abbrev e : tie.After-stretch-end Inv-loop μ-loop
+  e = c .before
+
+  abbrev face : ℕ
+  face = f e .face-at .result
+
+  abbrev lines : FaceLines
+  lines = linesOn (start (l (f e)) .args .row .rays) face
+
+  stretches : (r : FaceLines) → r ≡ lines
+      → Stretch (A e) (r .across) (r .distance) (stretch e) × Stretch (A e) (r .down) (r .distance) (stretch e)
+  stretches r is = subst
+      (λ r. Stretch (A e) (r .across) (r .distance) (stretch e) × Stretch (A e) (r .down) (r .distance) (stretch e))
+      (sym is)
+      (across-stretch (A e) (A-most e) (stretch-row e) (one e), down-stretch (A e) (A-most e) (stretch-row e) (one e))
+
+positions-on-face-requires : tie.Need-positions-on-face-requires Inv-loop μ-loop
+positions-on-face-requires c κs =
+    let d : tie.After-lines-on Inv-loop μ-loop = c .before .before .before .before .before in
+    let i = l (f (e d)) .loop .inv .1 in (
+      stretches d (d .lines-on .result) (d .lines-on .ensures),
+      (
+        (
+          omega (arith, stretch-length (row (l (f (e d)))) (order (e d)) (end (e d)), e d .stretch-end .ensures .0),
+          stretch-row (e d) .even,
+        ),
+        (i .guesses-whole, i .distances-whole, i .reciprocals-whole, i .positions-whole),
+      ),
+    )
+
+-- the positions that were found, and the samples there
+module _ (p : tie.After-positions-on-face Inv-loop μ-loop) where
+  abbrev d : tie.After-lines-on Inv-loop μ-loop
+  d = p .before .before .before .before .before .before
+
+  abbrev b : tie.At-loop Inv-loop μ-loop
+  b = l (f (e d))
+
+  abbrev s : tie.Start Inv-loop μ-loop
+  s = start b
+
+  abbrev g : FaceLines → List ℕ → Type 0
+  g r table = Positioned (s .args .row .reading .cube .format) (A (e d)) (r .across) (r .distance)
+      (stretch (e d)) 0 table
+      × Positioned (s .args .row .reading .cube .format) (A (e d)) (r .down) (r .distance) (stretch (e d)) 512 table
+
+  -- as many as the stretch has columns
+  abbrev n : ℕ
+  n = to (e d) - from b
+
+  all : n ≡ length (stretch (e d))
+  all = sym (stretch-length (row b) (order (e d)) (end (e d)))
+
+  found : {table : List ℕ} → g (d .lines-on .result) table → g (lines d) table
+  found {table} h = subst (λ r. g r table) (d .lines-on .ensures) h
+
+  -- the part of the target
+  room : 2 * to (e d) ≤ length (b .loop .target)
+  room = omega (arith, same b, s .pre .1 .0 .1, end (e d))
+
+  -- one more stretch
+  next : {after : List ℕ} → after ≡ placed 2 (b .loop .target) (from b) (λ j. value b (from b + j)) n
+      → Placed 2 0 (value b) (s .args .target .now) after (count b) (to (e d))
+  next e₁ = record {
+    bounded = end (e d);
+    holds = e₁
+        ∙ ap (λ bytes. placed 2 bytes (from b) (λ j. value b (from b + j)) n) (b .loop .inv .0 .holds)
+        ∙ ap (λ k. placed 2 (placed 2 (s .args .target .now) 0 (value b) (from b)) k (λ j. value b (from b + j)) n)
+        (none (from b))
+        ∙ placed-run 2 (s .args .target .now) 0 (value b) (from b) n
+        (omega (arith, order (e d), end (e d), s .pre .1 .0 .1))
+        ∙ ap (placed 2 (s .args .target .now) 0 (value b)) (omega (arith, order (e d)));
+  }
+    where
+      none : (k : ℕ) → k ≡ 0 + k
+      none k = omega arith
+
+sub-sample-table : tie.Need-sub-sample-table Inv-loop μ-loop
+sub-sample-table c = omega (arith, order (e (d (c .before .before .before))))
+
+part-sample-table-start : tie.Need-part-sample-table-start Inv-loop μ-loop
+part-sample-table-start c = search needs
+
+part-sample-table-end : tie.Need-part-sample-table-end Inv-loop μ-loop
+part-sample-table-end c = omega (arith, room (c .before .before .before))
+
+sample-table-requires : tie.Need-sample-table-requires Inv-loop μ-loop
+sample-table-requires c κs =
+    let p : tie.After-positions-on-face Inv-loop μ-loop = c .before .before .before .before in
+    let g = p .positions-on-face .ensures in
+    let h = found p (g .0, g .1) in
+    let q = e (d p) in (
+      (s p .pre .0, face-below (f q)),
+      (
+        (
+          positions (A q) (A-most q) (stretch-row q) (one q) (g .5) (h .0) (h .1) (all p),
+          g .5,
+          omega (arith, end q, row (b p) .few),
+        ),
+        (
+          part-length (2 * from (b p)) (2 * to q) (b p .loop .target) (omega (arith, order q)) (room p)
+              ∙ omega (arith, order q),
+          g .3,
+        ),
+      ),
+    )
 
 loop-less : tie.Need-loop-less Inv-loop μ-loop
 loop-less c =
-    let e : tie.After-stretch-end Inv-loop μ-loop = c .before .before .before .before .before .before .before .before .before .before in
-    omega (arith, e .stretch-end .ensures .0, e .stretch-end .ensures .1)
+    let p : tie.After-positions-on-face Inv-loop μ-loop = c .before .before .before .before .before .before .before in
+    omega (arith, e (d p) .stretch-end .ensures .0, end (e (d p)))
 
 loop-again : tie.Need-loop-again Inv-loop μ-loop
 loop-again c =
-    let d : tie.After-convert-stretch Inv-loop μ-loop = c .before .before in
-    let e : tie.After-stretch-end Inv-loop μ-loop = d .before .before .before .before .before .before .before .before in
-    let (done, tables) = d .convert-stretch .ensures in
-    (next (l (e .before)) (e .stretch-end .result) (e .stretch-end .ensures .0) (e .stretch-end .ensures .1) done, tables)
+    let t : tie.After-sample-table Inv-loop μ-loop = c .before .before in
+    let p : tie.After-positions-on-face Inv-loop μ-loop = t .before .before .before .before .before in
+    let q = e (d p) in
+    let g = p .positions-on-face .ensures in
+    let h = found p (g .0, g .1) in
+    let k = row (b p) in
+    let a = s p .args .row .reading in (
+      next p
+          (ap (putMid (2 * from (b p)) (2 * to q - 2 * from (b p)) (b p .loop .target))
+          (t .sample-table .ensures .0
+          ∙ framed-cong 2 _ (λ j. value (b p) (from (b p) + j)) (n p) (λ j m.
+          ap (sampleFrom (a .sampler) (A q) (a .depth) (sampleBy (s p .args .source .now) (s p .args .strides .now)))
+          (located-at (A q) (A-most q) (stretch-row q) (one q) (g .5) (h .0) (h .1) (all p) j (omega (arith, m, all p))
+          ∙ ap (λ z. locate (a .cube .format) (A q) (rayAt (s p .args .row .rays) z))
+          (column-of k (order q) (end q) j (omega (arith, m, all p))))))
+          ∙ put-placed 2 (b p .loop .target) (from (b p)) (to q) (2 * from (b p)) (2 * to q) _ refl refl (order q)),
+      record {
+        guesses-whole = g .2;
+        distances-whole = t .sample-table .ensures .1;
+        reciprocals-whole = g .4;
+        positions-whole = g .5;
+      },
+    )
 
 same-length : tie.Need-same-length Inv-loop μ-loop
 same-length c = same (c .before)
@@ -128,7 +301,13 @@ same-length c = same (c .before)
 returns : tie.Need-returns Inv-loop μ-loop
 returns c =
     let i = c .before .loop .inv in
-    (i .0 .holds ∙ ap (placed (start (c .before) .args .target .now) (start (c .before) .args .at) (value (c .before))) (omega (arith, i .0 .bounded)), i .1)
+    let s : tie.Start Inv-loop μ-loop = start (c .before) in (
+      i .0 .holds
+          ∙ ap (placed 2 (s .args .target .now) 0 (value (c .before)))
+          (omega (arith, i .0 .bounded, c .loop-test .left))
+          ∙ placed-all 2 (s .args .target .now) (value (c .before)) (count (c .before)) (s .pre .1 .0 .1),
+      i .1,
+    )
 
 pub convert-along-spec : {M : Type 1} → statement M
 convert-along-spec =
@@ -137,11 +316,23 @@ convert-along-spec =
     Inv-loop
     μ-loop
     loop-holds
-    mul-face-along
-    element-copy-out-face-along
-    face-along-requires
+    mul-face-at
+    shared-slice-copy-out-face-at
+    face-at-requires
     stretch-end-requires
-    convert-stretch-requires
+    sub-columns
+    mul-first
+    mul-last
+    lines-on-requires
+    mul-positions-on-face
+    sub-positions-on-face
+    part-positions-on-face-start
+    part-positions-on-face-end
+    positions-on-face-requires
+    sub-sample-table
+    part-sample-table-start
+    part-sample-table-end
+    sample-table-requires
     loop-less
     loop-again
     same-length

@@ -3,91 +3,91 @@ use mathlib.Core.Path.{_≡_, sym, _∙_, ap, subst}
 use Prim.Native.Nat.{ℕ, _+_, _-_, _≤_, _<_}
 use native.Mathlib.Omega.{arith}
 use native.Mathlib.Nat.{lt-of-not-le}
-use lib.IntN.{ℤ, pos}
-use lib.ListN.{getD}
+use lib.IntN.{ℤ}
+use lib.ListN.{length}
 use mir.Syntax.{w64}
 use mir.Val.{ofZ}
 use Rattle.arithmetic.proofs.Held.{Held, held, read-small}
 use Rattle.cubemap.specs.RayToPlace.{faceOf}
 use Rattle.cubemap.proofs.Faces.{Chosen, chosen, chosen-only}
 use Rattle.cubemap.proofs.Regions.{chosen-between}
-use Rattle.cubemap.proofs.Rotations.{along}
 use Rattle.cubemap.proofs.RotatedRays.{RotatedRay}
-use Rattle.resampling.specs.Plane.{OneFace}
+use Rattle.positions.specs.RayLines.{coordinateAt}
+use Rattle.resampling.specs.RowOfRays.{rayAt, OneFace}
 use Rattle.resampling.proofs.stretch_end.Statement.{statement}
 use Rattle.resampling.proofs.stretch_end.Tie as tie
 
 abbrev Inv-loop : tie.InvT-loop
-Inv-loop size coordinates start ray-step from face to₀ to = (from < to) × (to ≤ size)
+Inv-loop rays coordinates from face to₀ to = (from < to) × (to ≤ length coordinates)
 
 abbrev μ-loop : tie.MeasureT-loop
-μ-loop size coordinates start ray-step from face to₀ to = to
+μ-loop rays coordinates from face to₀ to = to
 
 module _ (s : tie.Start Inv-loop μ-loop) where
   -- the coordinate of a column, and what its ray meets
   abbrev coordinate : ℕ → ℤ
-  coordinate m = getD (s .args .coordinates .now) m (pos 0)
+  coordinate m = coordinateAt (s .args .coordinates .now) m
 
   abbrev meets : ℕ → ℕ
-  meets m = faceOf (along (s .args .start) (coordinate m) (s .args .ray-step))
+  meets m = faceOf (rayAt (s .args .rays) (coordinate m))
 
-  held-at : (m : ℕ) → m < s .args .size → Held (ofZ w64 (coordinate m)) (coordinate m) 65536
+  held-at : (m : ℕ) → m < length (s .args .coordinates .now) → Held (ofZ w64 (coordinate m)) (coordinate m) 65536
   held-at m h = held (coordinate m) (s .pre .0 .0 .small m h) tt
 
   -- the rays from the first column to another one that meets its face
-  one-face : (m : ℕ) → s .args .from ≤ m → m < s .args .size → s .args .face ≡ meets m
-      → OneFace (s .args .coordinates .now) (s .args .start) (s .args .ray-step) (s .args .face) (s .args .from) (m + 1)
+  one-face : (m : ℕ) → s .args .from ≤ m → m < length (s .args .coordinates .now) → s .args .face ≡ meets m
+      → OneFace (s .args .rays) (s .args .coordinates .now) (s .args .face) (s .args .from) (m + 1)
   one-face m l h e = record {
-    meets = λ n p q. chosen-only (s .args .face) (along (s .args .start) (coordinate n) (s .args .ray-step))
-        (chosen-between (s .args .face) (s .args .start) (s .args .ray-step)
+    meets = λ n p q. chosen-only (s .args .face) (rayAt (s .args .rays) (coordinate n))
+        (chosen-between (s .args .face) (s .args .rays .start) (s .args .rays .slope)
         (s .pre .0 .0 .rising (s .args .from) n p (omega arith)) (s .pre .0 .0 .rising n m (omega arith) h)
         (on (s .args .from) (omega arith) (s .pre .1)) (on m h e));
   }
     where
-      on : (n : ℕ) → n < s .args .size → s .args .face ≡ meets n → Chosen (s .args .face) (along (s .args .start) (coordinate n) (s .args .ray-step))
-      on n h e = subst (λ f. Chosen f (along (s .args .start) (coordinate n) (s .args .ray-step))) (sym e)
-          (chosen (along (s .args .start) (coordinate n) (s .args .ray-step)) (s .pre .0 .0 .leads n h .nonzero))
+      on : (n : ℕ) → n < length (s .args .coordinates .now) → s .args .face ≡ meets n → Chosen (s .args .face)
+          (rayAt (s .args .rays) (coordinate n))
+      on n h e = subst (λ f. Chosen f (rayAt (s .args .rays) (coordinate n))) (sym e)
+          (chosen (rayAt (s .args .rays) (coordinate n)) (s .pre .0 .0 .leads n h .nonzero))
 
 loop-holds : tie.Need-loop-holds Inv-loop μ-loop
-loop-holds c = (c .pre .0 .2, omega arith)
+loop-holds c = (c .pre .0 .1, omega arith)
 
-sub-face-along : tie.Need-sub-face-along Inv-loop μ-loop
-sub-face-along c = let h = c .loop .inv .0 in omega arith
+sub-face-at : tie.Need-sub-face-at Inv-loop μ-loop
+sub-face-at c = let h = c .loop .inv .0 in omega arith
 
-mul-face-along : tie.Need-mul-face-along Inv-loop μ-loop
-mul-face-along c = let h = c .loop .inv .1 in let m = c .before .pre .0 .1 in omega arith
+mul-face-at : tie.Need-mul-face-at Inv-loop μ-loop
+mul-face-at c = let h = c .loop .inv .1 in let m = c .before .pre .0 .0 .few in omega arith
 
-element-copy-out-face-along : tie.Need-element-copy-out-face-along Inv-loop μ-loop
-element-copy-out-face-along c = let h = c .loop .inv in let m = c .before .pre .0 .1 in omega (arith, h .0, h .1)
+shared-slice-copy-out-face-at : tie.Need-shared-slice-copy-out-face-at Inv-loop μ-loop
+shared-slice-copy-out-face-at c = let h = c .loop .inv in let m = c .before .pre .0 .0 .few in omega (arith, h .0, h .1)
 
 -- the last column of what is looked at
 module _ (l : tie.At-loop Inv-loop μ-loop) where
   abbrev last : ℕ
   last = l .loop .to - 1
 
-  last-below : last < l .before .args .size
+  last-below : last < length (l .before .args .coordinates .now)
   last-below = let h = l .loop .inv in omega (arith, h .0, h .1)
 
-face-along-requires : tie.Need-face-along-requires Inv-loop μ-loop
-face-along-requires c κs =
+face-at-requires : tie.Need-face-at-requires Inv-loop μ-loop
+face-at-requires c κs =
     let l : tie.At-loop Inv-loop μ-loop = c .before in
     let s : tie.Start Inv-loop μ-loop = l .before in
     let h = held-at s (last l) (last-below l) in (
-      s .pre .0 .0 .start-ok,
-      s .pre .0 .0 .step-ok,
+      s .pre .0 .0 .in-range,
       read-small h,
-      subst (λ u. RotatedRay (along (s .args .start) u (s .args .ray-step))) (sym (h .is))
+      subst (λ u. RotatedRay (rayAt (s .args .rays) u)) (sym (h .is))
           (s .pre .0 .0 .leads (last l) (last-below l)),
     )
 
 -- what the last ray meets
-module _ (c : tie.After-face-along Inv-loop μ-loop) where
+module _ (c : tie.After-face-at Inv-loop μ-loop) where
   abbrev l : tie.At-loop Inv-loop μ-loop
   l = c .before .before
 
-  last-meets : c .face-along .result ≡ meets (l .before) (last l)
-  last-meets = c .face-along .ensures
-      ∙ ap (λ u. faceOf (along (l .before .args .start) u (l .before .args .ray-step))) (held-at (l .before) (last l) (last-below l) .is)
+  last-meets : c .face-at .result ≡ meets (l .before) (last l)
+  last-meets = c .face-at .ensures
+      ∙ ap (λ u. faceOf (rayAt (l .before .args .rays) u)) (held-at (l .before) (last l) (last-below l) .is)
 
 -- where it is another face, it is not the first ray
 further : (c : tie.Then1 Inv-loop μ-loop) → let l = l (c .before) in l .before .args .from + 1 < l .loop .to
@@ -101,13 +101,14 @@ sub-to : tie.Need-sub-to Inv-loop μ-loop
 sub-to c = let h = c .before .before .before .loop .inv .0 in omega arith
 
 add-to : tie.Need-add-to Inv-loop μ-loop
-add-to c = let h = c .before .before .before .loop .inv in let m = c .before .before .before .before .pre .0 .1 in omega (arith, h .0, h .1)
+add-to c = let h = c .before .before .before .loop .inv in let m = c .before .before .before .before .pre .0 .0 .few in omega (arith, h .0, h .1)
 
 loop-less : tie.Need-loop-less Inv-loop μ-loop
 loop-less c = omega (arith, further c)
 
 loop-again : tie.Need-loop-again Inv-loop μ-loop
-loop-again c = let h = c .before .before .before .loop .inv in (omega (arith, further c), omega (arith, further c, h .1))
+loop-again c = let h = c .before .before .before .loop .inv in
+    (omega (arith, further c), omega (arith, further c, h .1))
 
 returns : tie.Need-returns Inv-loop μ-loop
 returns c =
@@ -115,8 +116,10 @@ returns c =
     let h = t .loop .inv in (
       h .0,
       h .1,
-      subst (OneFace (t .before .args .coordinates .now) (t .before .args .start) (t .before .args .ray-step) (t .before .args .face) (t .before .args .from))
-          (omega (arith, h .0)) (one-face (t .before) (last t) (omega (arith, h .0)) (last-below t) (sym (c .if1 .left) ∙ last-meets (c .before))),
+      subst (OneFace (t .before .args .rays) (t .before .args .coordinates .now) (t .before .args .face)
+          (t .before .args .from))
+          (omega (arith, h .0)) (one-face (t .before) (last t) (omega (arith, h .0)) (last-below t)
+          (sym (c .if1 .left) ∙ last-meets (c .before))),
     )
 
 pub stretch-end-spec : {M : Type 1} → statement M
@@ -126,10 +129,10 @@ stretch-end-spec =
     Inv-loop
     μ-loop
     loop-holds
-    sub-face-along
-    mul-face-along
-    element-copy-out-face-along
-    face-along-requires
+    sub-face-at
+    mul-face-at
+    shared-slice-copy-out-face-at
+    face-at-requires
     sub-to
     add-to
     loop-less

@@ -22,8 +22,8 @@ passed : (c : tie.After-enum-told) → let a = begun (c .before .before) .args i
 passed c = score-passed _ _ _ (told-accepted (c .before .before .score-answer .ensures) (c .enum-told .given .1))
 
 -- a frame of the call's shape
-abbrev framed : tie.Start → List ℕ → List ℕ → Frame
-framed s L bytes = record { shape = s .args .shape; layout = L; bytes = bytes }
+abbrev frameWith : tie.Start → List ℕ → List ℕ → Frame
+frameWith s L bytes = record { shape = s .args .shape; layout = L; bytes = bytes }
 
 returns : tie.Need-returns
 returns c =
@@ -36,14 +36,14 @@ returns-2 c =
     let t : tie.After-enum-told = l .before .before in
     let s = begun (t .before .before) in
     ap scoredMeans (c .sums .ensures
-    ∙ ap₂ (λ L M. sumsOf (framed s L (s .args .first .now)) (framed s M (s .args .second .now))) (l .before .layout-of .ensures) (l .layout-of2 .ensures))
+    ∙ ap₂ (λ L M. sumsOf (frameWith s L (s .args .first .now)) (frameWith s M (s .args .second .now))) (l .before .layout-of .ensures) (l .layout-of2 .ensures))
     ∙ accepted-gives _ (told (t .before .before .score-answer .ensures) (t .enum-told .given .1)) ∙ score-is _ _ _
 
 sums-requires : tie.Need-sums-requires
 sums-requires c κs =
     let t : tie.After-enum-told = c .before .before in
     let s = begun (t .before .before) in
-    subst₂ (λ L M. Comparable (framed s L (s .args .first .now)) (framed s M (s .args .second .now)))
+    subst₂ (λ L M. Comparable (frameWith s L (s .args .first .now)) (frameWith s M (s .args .second .now)))
     (sym (c .before .layout-of .ensures)) (sym (c .layout-of2 .ensures))
     (record { one-shape = refl; passed = passed t })
 

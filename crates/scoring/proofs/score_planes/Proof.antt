@@ -11,10 +11,10 @@ use Rattle.cubemap.specs.declared.Place.{Place}
 use Rattle.cubemap.specs.declared.Scored.{Scored}
 use Rattle.cubemap.specs.Score.{weight}
 use Rattle.cubemap.proofs.Scores.{rowErrors, errors-by-rows, weights-by-rows}
-use Rattle.indices.specs.Steps.{sampleBy}
+use Rattle.strides.specs.FaceStrides.{sampleBy}
 use Rattle.weights.proofs.Weighing.{entry-most, row-weights, both-rows}
 use Rattle.scoring.proofs.Summing.{Running, running-none, running-next}
-use Rattle.scoring.proofs.Weighing.{row-errors}
+use Rattle.scoring.proofs.WeighedSums.{row-errors}
 use Rattle.scoring.proofs.score_planes.Statement.{statement}
 use Rattle.scoring.proofs.score_planes.Tie as tie
 
@@ -32,12 +32,12 @@ record RowsSummed (format : Format) (size : ℕ) (first second : Place → ℕ) 
   weight-sum : Running (λ n. bothTerms (rowWeights format size) n (size - suc n)) 67108864 row sum
 
 abbrev Inv-loop : tie.InvT-loop
-Inv-loop format size first first-steps second second-steps _ _ _ _ _ _ weights guesses errors sum row opposite =
-    RowsSummed format size (sampleBy first first-steps) (sampleBy second second-steps) weights guesses
+Inv-loop format size first first-strides second second-strides _ _ _ _ _ _ weights guesses errors sum row opposite =
+    RowsSummed format size (sampleBy first first-strides) (sampleBy second second-strides) weights guesses
     errors sum row opposite
 
 abbrev μ-loop : tie.MeasureT-loop
-μ-loop format size first first-steps second second-steps _ _ _ _ _ _ weights guesses errors sum row opposite =
+μ-loop format size first first-strides second second-strides _ _ _ _ _ _ weights guesses errors sum row opposite =
     opposite - row
 
 loop-holds : tie.Need-loop-holds Inv-loop μ-loop
@@ -63,30 +63,30 @@ start l = l .before .before .before
 weigh-row-requires : tie.Need-weigh-row-requires Inv-loop μ-loop
 weigh-row-requires c κs =
     let l : tie.At-loop Inv-loop μ-loop = c .before .before .before in
-    let p = start l .pre .0 .stepped in
+    let p = start l .pre .0 .strided in
     ((p .size-least, p .size-most, omega arith), (l .loop .inv .whole, l .loop .inv .guessed))
 
 rows-error-requires : tie.Need-rows-error-requires Inv-loop μ-loop
 rows-error-requires c κs =
     let w : tie.After-weigh-row Inv-loop μ-loop = c .before in
     let pre = start (turn w) .pre in
-    (pre, (entry-most (w .weigh-row .ensures .0) (pre .0 .stepped .size-least), omega arith, omega arith))
+    (pre, (entry-most (w .weigh-row .ensures .0) (pre .0 .strided .size-least), omega arith, omega arith))
 
 add-errors : tie.Need-add-errors Inv-loop μ-loop
 add-errors c =
     let l = turn (c .before .before) in
-    omega (arith, c .rows-error .ensures .1, l .loop .inv .error-sum .small, start l .pre .0 .stepped .size-most)
+    omega (arith, c .rows-error .ensures .1, l .loop .inv .error-sum .small, start l .pre .0 .strided .size-most)
 
 rows-weight-requires : tie.Need-rows-weight-requires Inv-loop μ-loop
 rows-weight-requires c κs =
     let w : tie.After-weigh-row Inv-loop μ-loop = c .before .before .before in
-    let p = start (turn w) .pre .0 .stepped in
+    let p = start (turn w) .pre .0 .strided in
     (p .size-most, entry-most (w .weigh-row .ensures .0) (p .size-least))
 
 add-sum : tie.Need-add-sum Inv-loop μ-loop
 add-sum c =
     let l = turn (c .before .before .before .before) in
-    omega (arith, c .rows-weight .ensures .1, l .loop .inv .weight-sum .small, start l .pre .0 .stepped .size-most)
+    omega (arith, c .rows-weight .ensures .1, l .loop .inv .weight-sum .small, start l .pre .0 .strided .size-most)
 
 add-row : tie.Need-add-row Inv-loop μ-loop
 add-row c = omega arith
@@ -108,14 +108,14 @@ loop-again c =
       whole = weighed .1;
       guessed = weighed .2;
       error-sum = running-next (l .inv .error-sum)
-          (e .0 ∙ both-rows (weighed .0) _ (λ i v. row-errors v (a .first .now) (a .first-steps .now) (a .second .now)
-          (a .second-steps .now)) (omega arith)) (e .1);
+          (e .0 ∙ both-rows (weighed .0) _ (λ i v. row-errors v (a .first .now) (a .first-strides .now) (a .second .now)
+          (a .second-strides .now)) (omega arith)) (e .1);
       weight-sum = running-next (l .inv .weight-sum)
           (r .0 ∙ both-rows (weighed .0) _ (λ i v. row-weights v) (omega arith)) (r .1);
     }
 
 mul-t20 : tie.Need-mul-t20 Inv-loop μ-loop
-mul-t20 c = omega (arith, c .before .loop .inv .weight-sum .small, start (c .before) .pre .0 .stepped .size-most)
+mul-t20 c = omega (arith, c .before .loop .inv .weight-sum .small, start (c .before) .pre .0 .strided .size-most)
 
 returns : tie.Need-returns Inv-loop μ-loop
 returns c =
@@ -123,8 +123,8 @@ returns c =
     let a = start (c .before) .args in
     let A = a .size in
     let format = a .format in
-    let first = sampleBy (a .first .now) (a .first-steps .now) in
-    let second = sampleBy (a .second .now) (a .second-steps .now) in
+    let first = sampleBy (a .first .now) (a .first-strides .now) in
+    let second = sampleBy (a .second .now) (a .second-strides .now) in
     ap₂ (λ e w. Scored.Sums e w)
     (l .inv .error-sum .is ∙ sum-ends (rowErrors format A first second) A (l .row) (omega arith) (omega arith)
     ∙ sym (errors-by-rows format A first second))

@@ -1,11 +1,10 @@
 -- `number_at` meets its contract: the product lies between two numbers below 2^30, so 32 bits hold it.
 use mathlib.Core.Path.{_≡_, sym, _∙_, ap, ap₂, subst}
 use mathlib.Core.List.{[], _∷_}
-use Prim.Native.Nat.{ℕ, _+_, _≤_}
-use native.Mathlib.Nat.{le-trans, add-le-add}
+use Prim.Native.Nat.{_≤_}
 use native.Mathlib.Omega.{arith}
-use lib.Dec.{T, lit≤}
-use lib.IntN.{ℤ, pos, negℤ, natAbs, _+ℤ_, _-ℤ_, _*ℤ_}
+use lib.Dec.{T}
+use lib.IntN.{ℤ, negℤ, natAbs, _+ℤ_, _*ℤ_}
 use lib.Signed.{nonNeg}
 use mir.Syntax.{w32, w64}
 use mir.Val.{SFits, toZ, ofZ}
@@ -24,37 +23,37 @@ difference-most x y h k =
 
 module _ (c : tie.Start) where
   abbrev product : ℤ
-  product = c .args .a *ℤ c .args .by
+  product = c .args .a *ℤ c .args .slope
 
   a : Narrow (ofZ w32 (toZ w64 (ofZ w64 (c .args .a)))) (c .args .a) 65536
   a = narrow (c .args .a) (c .pre .0 .1) tt
 
-  by-is : toZ w32 (ofZ w32 (c .args .by)) ≡ c .args .by
-  by-is = toZ-ofZ (c .fits .by)
+  slope-is : toZ w32 (ofZ w32 (c .args .slope)) ≡ c .args .slope
+  slope-is = toZ-ofZ (c .fits .slope)
 
-  at-is : toZ w32 (ofZ w32 (c .args .at)) ≡ c .args .at
-  at-is = toZ-ofZ (c .fits .at)
+  start-is : toZ w32 (ofZ w32 (c .args .start)) ≡ c .args .start
+  start-is = toZ-ofZ (c .fits .start)
 
   abbrev factors : ℤ
-  factors = toZ w32 (ofZ w32 (toZ w64 (ofZ w64 (c .args .a)))) *ℤ toZ w32 (ofZ w32 (c .args .by))
+  factors = toZ w32 (ofZ w32 (toZ w64 (ofZ w64 (c .args .a)))) *ℤ toZ w32 (ofZ w32 (c .args .slope))
 
   factors-are : factors ≡ product
-  factors-are = ap₂ _*ℤ_ (a .is) by-is
+  factors-are = ap₂ _*ℤ_ (a .is) slope-is
 
   product-fits : SFits w32 factors
   product-fits = subst (SFits w32) (sym factors-are)
-      (sfits product (difference-most (c .args .at) product (c .pre .1 .1) (c .pre .0 .0)) tt)
+      (sfits product (difference-most (c .args .start) product (c .pre .1 .1) (c .pre .0 .0)) tt)
 
   abbrev terms : ℤ
-  terms = toZ w32 (ofZ w32 (c .args .at)) +ℤ toZ w32 (ofZ w32 factors)
+  terms = toZ w32 (ofZ w32 (c .args .start)) +ℤ toZ w32 (ofZ w32 factors)
 
-  terms-are : terms ≡ c .args .at +ℤ product
-  terms-are = ap₂ _+ℤ_ at-is (toZ-ofZ product-fits ∙ factors-are)
+  terms-are : terms ≡ c .args .start +ℤ product
+  terms-are = ap₂ _+ℤ_ start-is (toZ-ofZ product-fits ∙ factors-are)
 
   sum-fits : SFits w32 terms
-  sum-fits = subst (SFits w32) (sym terms-are) (sfits (c .args .at +ℤ product) (c .pre .1 .1) tt)
+  sum-fits = subst (SFits w32) (sym terms-are) (sfits (c .args .start +ℤ product) (c .pre .1 .1) tt)
 
-  sum : Narrow (ofZ w32 terms) (c .args .at +ℤ product) 1073741822
+  sum : Narrow (ofZ w32 terms) (c .args .start +ℤ product) 1073741822
   sum = record { is = toZ-ofZ sum-fits ∙ terms-are; small = c .pre .1 .1 }
 
 returns : tie.Need-returns

@@ -6,28 +6,31 @@ use Rattle.stretches.proofs.sum_of.Statement.{statement}
 use Rattle.stretches.proofs.sum_of.Tie as tie
 
 module _ (s : tie.Start) where
-  at : Held (ofZ w64 (s .args .a .at)) (s .args .a .at) 536870911
-  at = held (s .args .a .at) (s .pre .0 .at-small) tt
+  start : Held (ofZ w64 (s .args .a .start)) (s .args .a .start) 536870911
+  start = held (s .args .a .start) (s .pre .0 .start-small) tt
 
-  by : Held (ofZ w64 (s .args .a .by)) (s .args .a .by) 536870911
-  by = held (s .args .a .by) (s .pre .0 .by-small) tt
+  slope : Held (ofZ w64 (s .args .a .slope)) (s .args .a .slope) 536870911
+  slope = held (s .args .a .slope) (s .pre .0 .slope-small) tt
 
-  more : Held (ofZ w64 (s .args .b .at)) (s .args .b .at) 536870911
-  more = held (s .args .b .at) (s .pre .1 .at-small) tt
+  more-start : Held (ofZ w64 (s .args .b .start)) (s .args .b .start) 536870911
+  more-start = held (s .args .b .start) (s .pre .1 .start-small) tt
 
-  more-by : Held (ofZ w64 (s .args .b .by)) (s .args .b .by) 536870911
-  more-by = held (s .args .b .by) (s .pre .1 .by-small) tt
+  more-slope : Held (ofZ w64 (s .args .b .slope)) (s .args .b .slope) 536870911
+  more-slope = held (s .args .b .slope) (s .pre .1 .slope-small) tt
 
 returns : tie.Need-returns
 returns c =
     let s : tie.Start = c .before .before .before .before in
-    λ i. record { at = add (at s) (more s) tt .is i; by = add (by s) (more-by s) tt .is i }
+    λ i. record {
+      start = add (start s) (more-start s) tt .is i;
+      slope = add (slope s) (more-slope s) tt .is i;
+    }
 
 add-t7 : tie.Need-add-t7
-add-t7 c = let s : tie.Start = c .before .before .before .before in add-ok (at s) (more s) tt
+add-t7 c = let s : tie.Start = c .before .before .before .before in add-ok (start s) (more-start s) tt
 
 add-t8 : tie.Need-add-t8
-add-t8 c = let s : tie.Start = c .before .before .before .before in add-ok (by s) (more-by s) tt
+add-t8 c = let s : tie.Start = c .before .before .before .before in add-ok (slope s) (more-slope s) tt
 
 pub sum-of-spec : {M : Type 1} → statement M
 sum-of-spec = tie.close (tie.spec add-t7 add-t8 returns)

@@ -7,8 +7,8 @@ use mir.Syntax.{w64}
 use mir.Val.{SFits, toZ, ofZ}
 use mir.Facts.{toZ-ofZ}
 use Rattle.taps.specs.declared.Weights.{Weights}
-use Rattle.taps.specs.Taps as by
-use Rattle.taps.specs.Taps.{Balanced}
+use Rattle.taps.specs.TapWeights as by
+use Rattle.taps.specs.TapWeights.{Balanced}
 use Rattle.taps.proofs.reversed.Statement.{statement}
 use Rattle.taps.proofs.reversed.Tie as tie
 

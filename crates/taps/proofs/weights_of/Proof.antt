@@ -1,7 +1,7 @@
 -- `weights_of` meets its contract: the four entries of the phase.
 use mathlib.Core.Path.{sym, subst}
 use borrow.Author.Needs.{needs}
-use Rattle.taps.specs.Taps.{Balanced}
+use Rattle.taps.specs.TapWeights.{Balanced}
 use Rattle.taps.proofs.Phases.{phase-balanced}
 use Rattle.taps.proofs.WeightTable.{weights-read}
 use Rattle.taps.proofs.weights_of.Statement.{statement}

@@ -6,7 +6,7 @@ use lib.Dec.{T, le→leb}
 use borrow.Author.Needs.{needs}
 use Rattle.arithmetic.proofs.Tests.{passes, fails}
 use Rattle.weights.specs.declared.WeightTest.{WeightTest}
-use Rattle.weights.specs.Tests.{passing}
+use Rattle.weights.specs.WeightTests.{passing}
 use Rattle.weights.proofs.most.Statement.{statement}
 use Rattle.weights.proofs.most.Tie as tie
 

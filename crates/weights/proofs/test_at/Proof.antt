@@ -5,7 +5,7 @@ use native.Mathlib.Nat.{mul-le-mul}
 use native.Mathlib.Omega.{arith}
 use borrow.Author.Needs.{needs}
 use Rattle.cubemap.proofs.Weights.{sixth}
-use Rattle.weights.specs.Tests.{TestOf}
+use Rattle.weights.specs.WeightTests.{TestOf}
 use Rattle.weights.proofs.test_at.Statement.{statement}
 use Rattle.weights.proofs.test_at.Tie as tie
 

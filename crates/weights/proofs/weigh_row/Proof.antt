@@ -4,7 +4,7 @@ use Prim.Native.Nat.{_-_}
 use native.Mathlib.Omega.{arith}
 use lib.ListN.{length, length-set}
 use borrow.Author.Needs.{needs}
-use Rattle.weights.proofs.Filling.{Filled, filled-next, filled-all}
+use Rattle.weights.proofs.WeightTables.{Filled, filled-next, filled-all}
 use Rattle.weights.proofs.weigh_row.Statement.{statement}
 use Rattle.weights.proofs.weigh_row.Tie as tie
 

@@ -1,0 +1,2 @@
+mod SlotRays
+mod RunRays

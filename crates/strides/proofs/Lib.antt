@@ -1,0 +1,3 @@
+pub mod StrideIndices
+pub mod Aligning
+mod StrideTables
