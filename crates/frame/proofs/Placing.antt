@@ -3,7 +3,7 @@ use mathlib.Core.Path.{_≡_, sym, _∙_, ap, ap₂}
 use mathlib.Core.List.{List, _++_, append-assoc, append-nil}
 use Prim.Native.Nat.{ℕ, zero, suc, _+_, _*_, _-_, _≤_, _<_}
 use native.Mathlib.Omega.{arith}
-use native.Mathlib.Nat.{add-zero, add-suc, mul-le-mul-left}
+use native.Mathlib.Nat.{zero-add, add-zero, add-suc, mul-le-mul-left}
 use native.Mathlib.Numerals.{add-one}
 use lib.ListN.{length, take, drop, length-append, length-drop, take-append-drop, drop-of-length-le}
 use lib.Seq.{sets, sets-eq, length-take-le, take-at, drop-at, drop-drop}
@@ -128,6 +128,22 @@ module _ (w : ℕ) where
 
           joined : (k m n : ℕ) → w * (k + m) + w * n ≡ w * (k + (m + n))
           joined k m n = omega arith
+
+  -- n more, behind those from the first index on
+  pub placed-more : {f : ℕ → ℕ} {before now after : List ℕ} {most m : ℕ} (n k : ℕ) → Placed 0 f before now most m
+      → m + n ≡ k → k ≤ most → w * most ≤ length before → after ≡ placed w now m (λ j. f (m + j)) n
+      → Placed 0 f before after most k
+  placed-more {f} {before} {most = most} {m} n k p all bounded room e = record {
+    bounded = bounded;
+    holds = e
+        ∙ ap (λ bytes. placed w bytes m (λ j. f (m + j)) n) (p .holds)
+        ∙ ap (λ i. placed w (placed w before 0 f m) i (λ j. f (m + j)) n) (sym (zero-add m))
+        ∙ placed-run before 0 f m n (fits (mul-le-mul-left w bounded))
+        ∙ ap (placed w before 0 f) all;
+  }
+    where
+      fits : w * k ≤ w * most → w * (0 + (m + n)) ≤ length before
+      fits b = omega (arith, ap (λ i. w * i) all)
 
   -- a part that was lent, and comes back with the numbers of g
   pub put-placed : (bytes : List ℕ) (from to first last : ℕ) (g : ℕ → ℕ) → first ≡ w * from → last ≡ w * to → from ≤ to

@@ -103,8 +103,7 @@ pub fn nearest_stretch(
         (length (now (columns .entry)))) × (length (now (indices .exit)) ≡ 512) ⌝ }
 {
     let on = strides::strides_at(strides, face);
-    let column_stride = on.column;
-    if arithmetic::magnitude(column_stride) == 1 {
+    if strides::runs_along(on) {
         nearest_in_rows(size, plane, on, columns, rows, indices, target)
     } else {
         nearest_in_rows(

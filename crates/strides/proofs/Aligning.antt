@@ -1,4 +1,4 @@
--- Leads with the columns in the other order, and strides that are aligned with those of a guide: where they lead, and
+-- StridesTo with the columns in the other order, and strides that are aligned with those of a guide: where they lead, and
 -- what they read. Aligned with itself, each row of a table runs ahead along a row of the frame.
 use mathlib.Core.Path.{_≡_, refl, sym, _∙_, ap, subst}
 use mathlib.Core.Bool.{Bool, true, false, cond}

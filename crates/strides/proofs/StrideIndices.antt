@@ -1,6 +1,7 @@
 -- Base and strides of a face in its slot, turned 0 to 3 times, lead to the index of each of its columns and rows; and
 -- strides with columns and rows exchanged.
 use mathlib.Core.Path.{_≡_, refl, sym, _∙_, ap, subst}
+use mathlib.Core.Bool.{true, false, true≢false}
 use mathlib.Core.List.{List, [], _∷_}
 use Prim.Native.Nat.{ℕ, _+_, _*_, _-_, _/_, _%_, _^_, _≤_, _<_}
 use native.Mathlib.Nat.{mul-le-mul}
@@ -8,12 +9,14 @@ use native.Mathlib.Decide.{ℕ-discrete}
 use native.Mathlib.Omega.{arith}
 use lib.ListN.{length}
 use lib.IntN.{ℤ, pos, negsuc, negℤ, natAbs, _+ℤ_, _*ℤ_}
-use lib.Dec.{T}
+use lib.Dec.{T, eqb→eq}
 use lib.Signed.{nonNeg}
 use mir.Syntax.{w64}
 use mir.Val.{toZ, ofZ}
 use Rattle.arithmetic.specs.Integers.{natural}
+use borrow.Author.Tests.{eq-eqb}
 use Rattle.arithmetic.proofs.Held.{held}
+use Rattle.arithmetic.proofs.Tests.{passes}
 use Rattle.arithmetic.proofs.Sizes.{pos-inj, natAbs-neg}
 use Rattle.arithmetic.proofs.Ring.{var, con, _⊕_, _⊗_, ⊖, solve}
 use Rattle.cubemap.specs.declared.Place.{Place}
@@ -29,8 +32,8 @@ use Rattle.cubemap.proofs.Passed.{depth-levels}
 use Rattle.frame.specs.LumaPlane.{lumaOf}
 use Rattle.frame.proofs.LumaSamples.{luma-length, luma-sample, luma-place}
 use Rattle.strides.specs.declared.Strides.{Strides}
-use Rattle.strides.specs.FaceStrides.{indexBy, Contiguous, Leads, Askable, FaceLeads, stridesIn, LeadsTo}
-use Rattle.strides.specs.FaceStrides.{StrideTable, exchanged}
+use Rattle.strides.specs.FaceStrides.{indexBy, Contiguous, StridesTo, Askable, FaceLeads, stridesIn, LeadsTo}
+use Rattle.strides.specs.FaceStrides.{StrideTable, exchanged, runsAlong}
 use Rattle.strides.specs.FaceStrides.{Shallow, StridedFace, StridedPlane, sampleOnFace, sampleBy}
 
 abbrev pub strides : ℤ → ℤ → ℤ → Strides
@@ -40,9 +43,9 @@ strides base column row = record { base = base; column = column; row = row }
 pub strides-eq : {b d e x y z : ℤ} → b ≡ x → d ≡ y → e ≡ z → strides b d e ≡ strides x y z
 strides-eq p q r = λ i. strides (p i) (q i) (r i)
 
-pub same-strides : {A : ℕ} {at : ℕ → ℕ → ℕ} {b d e x y z : ℤ} → b ≡ x → d ≡ y → e ≡ z → Leads A (strides x y z) at
-    → Leads A (strides b d e) at
-same-strides {A} {at} p q r w = subst (λ t. Leads A t at) (sym (strides-eq p q r)) w
+pub same-strides : {A : ℕ} {at : ℕ → ℕ → ℕ} {b d e x y z : ℤ} → b ≡ x → d ≡ y → e ≡ z → StridesTo A (strides x y z) at
+    → StridesTo A (strides b d e) at
+same-strides {A} {at} p q r w = subst (λ t. StridesTo A t at) (sym (strides-eq p q r)) w
 
 -- n strides of w back
 back : (y n w : ℕ) → pos (y + n * w) +ℤ pos n *ℤ negℤ (pos w) ≡ pos y
@@ -91,7 +94,7 @@ module _ (A slot : ℕ) (a : 1 ≤ A) (b : A ≤ 512) (h : slot < 6) where
   turned k m n x y e = ap pos (sym (ap (indexInSlot A slot) e ∙ slot-index A slot x y))
 
   -- the four ways that a slot is turned
-  pub strides-0 : Leads A (strides (pos corner) (pos 1) (pos (3 * A)))
+  pub strides-0 : StridesTo A (strides (pos corner) (pos 1) (pos (3 * A)))
       (λ m n. indexInSlot A slot (quarterTurns A 0 (spot m n)))
   strides-0 = record {
     base-small = omega (arith, last-below);
@@ -105,7 +108,7 @@ module _ (A slot : ℕ) (a : 1 ≤ A) (b : A ≤ 512) (h : slot < 6) where
       along : (m n : ℕ) → corner + m * 1 + n * (3 * A) ≡ at m n
       along m n = omega arith
 
-  pub strides-1 : Leads A (strides (pos (corner + (A - 1))) (pos (3 * A)) (negℤ (pos 1)))
+  pub strides-1 : StridesTo A (strides (pos (corner + (A - 1))) (pos (3 * A)) (negℤ (pos 1)))
       (λ m n. indexInSlot A slot (quarterTurns A 1 (spot m n)))
   strides-1 = record {
     base-small = omega (arith, last-below);
@@ -117,7 +120,7 @@ module _ (A slot : ℕ) (a : 1 ≤ A) (b : A ≤ 512) (h : slot < 6) where
     either = λ h. refl;
   }
 
-  pub strides-2 : Leads A (strides (pos (corner + (A - 1) * (3 * A) + (A - 1))) (negℤ (pos 1)) (negℤ (pos (3 * A))))
+  pub strides-2 : StridesTo A (strides (pos (corner + (A - 1) * (3 * A) + (A - 1))) (negℤ (pos 1)) (negℤ (pos (3 * A))))
       (λ m n. indexInSlot A slot (quarterTurns A 2 (spot m n)))
   strides-2 = record {
     base-small = omega (arith, last-below);
@@ -132,7 +135,7 @@ module _ (A slot : ℕ) (a : 1 ≤ A) (b : A ≤ 512) (h : slot < 6) where
     either = λ h. absurd (h refl);
   }
 
-  pub strides-3 : Leads A (strides (pos (corner + (A - 1) * (3 * A))) (negℤ (pos (3 * A))) (pos 1))
+  pub strides-3 : StridesTo A (strides (pos (corner + (A - 1) * (3 * A))) (negℤ (pos (3 * A))) (pos 1))
       (λ m n. indexInSlot A slot (quarterTurns A 3 (spot m n)))
   strides-3 = record {
     base-small = omega (arith, last-below);
@@ -151,8 +154,8 @@ module _ (A slot : ℕ) (a : 1 ≤ A) (b : A ≤ 512) (h : slot < 6) where
 
 -- ---- strides to an index
 
-pub strides-cong : {A : ℕ} {s : Strides} {f g : ℕ → ℕ → ℕ} → ((m n : ℕ) → m < A → n < A → f m n ≡ g m n) → Leads A s f
-    → Leads A s g
+pub strides-cong : {A : ℕ} {s : Strides} {f g : ℕ → ℕ → ℕ} → ((m n : ℕ) → m < A → n < A → f m n ≡ g m n) → StridesTo A s f
+    → StridesTo A s g
 strides-cong {A} e s = record {
   base-small = s .base-small;
   column-small = s .column-small;
@@ -163,11 +166,11 @@ strides-cong {A} e s = record {
 }
 
 -- what they give is not negative, and a face may be asked there
-pub not-negative : {A : ℕ} {s : Strides} {at : ℕ → ℕ → ℕ} → Leads A s at → (m n : ℕ) → m < A → n < A
+pub not-negative : {A : ℕ} {s : Strides} {at : ℕ → ℕ → ℕ} → StridesTo A s at → (m n : ℕ) → m < A → n < A
     → T (nonNeg (indexBy s m n))
 not-negative s m n p q = subst (λ z. T (nonNeg z)) (sym (s .gives m n p q)) tt
 
-pub askable : {A : ℕ} {s : Strides} {at : ℕ → ℕ → ℕ} → Leads A s at → A ≤ 512 → (m n : ℕ) → m < A → n < A
+pub askable : {A : ℕ} {s : Strides} {at : ℕ → ℕ → ℕ} → StridesTo A s at → A ≤ 512 → (m n : ℕ) → m < A → n < A
     → Askable s m n
 askable s b m n p q = record {
   base-small = s .base-small;
@@ -186,7 +189,7 @@ index-on s m n a b = solve (s .base ∷ pos m ∷ pos a ∷ s .column ∷ pos n 
     (var 0 ⊕ var 1 ⊗ var 3 ⊕ var 4 ⊗ var 6 ⊕ var 5 ⊗ var 6 ⊕ var 2 ⊗ var 3) tt
 
 -- where a column stride is 1, a row lies unbroken
-pub strides-unbroken : {A : ℕ} {s : Strides} {at : ℕ → ℕ → ℕ} → Leads A s at → s .column ≡ pos 1 → (m n : ℕ) → m < A
+pub strides-unbroken : {A : ℕ} {s : Strides} {at : ℕ → ℕ → ℕ} → StridesTo A s at → s .column ≡ pos 1 → (m n : ℕ) → m < A
     → n < A → at m n ≡ at 0 n + m
 strides-unbroken {s = s} {at} w e m n p q = pos-inj (at m n) (at 0 n + m)
     (sym (w .gives m n p q)
@@ -202,6 +205,13 @@ strides-unbroken {s = s} {at} w e m n p q = pos-inj (at m n) (at 0 n + m)
 pub not-ahead : (z : ℤ) → natAbs z ≡ 1 → (z ≡ pos 1 → ⊥) → z ≡ negℤ (pos 1)
 not-ahead (pos n) e f = absurd (f (ap pos e))
 not-ahead (negsuc n) e f = let d : n ≡ 0 = omega (arith, e) in ap negsuc d
+
+-- where a row runs along a row of the frame, the face is contiguous, and only there
+pub along-contiguous : (s : Strides) → runsAlong s ≡ true → Contiguous s
+along-contiguous s e = eqb→eq (natAbs (s .column)) 1 (passes e)
+
+pub along-not : (s : Strides) → runsAlong s ≡ false → Contiguous s → ⊥
+along-not s e h = true≢false (sym (eq-eqb (natAbs (s .column)) 1 h) ∙ e)
 
 -- a column stride that is read as 1, and one that is not
 pub stride-ahead : (s : Strides) → Contiguous s → ofZ w64 (s .column) ≡ 1 → s .column ≡ pos 1

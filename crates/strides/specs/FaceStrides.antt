@@ -22,7 +22,7 @@ Contiguous s = natAbs (s .column) ≡ 1
 
 -- for each column m and row n of a face of size A the strides give the index `at m n`; a frame has at most 6·512²
 -- samples, and a row of it 3·512. The rows of the face run along the rows of the frame, or its columns do
-pub record Leads (A : ℕ) (s : Strides) (at : ℕ → ℕ → ℕ) : Type 0 where
+pub record StridesTo (A : ℕ) (s : Strides) (at : ℕ → ℕ → ℕ) : Type 0 where
   pub base-small : natAbs (s .base) ≤ 1572864
   pub column-small : natAbs (s .column) ≤ 1536
   pub row-small : natAbs (s .row) ≤ 1536
@@ -41,7 +41,7 @@ pub record Askable (s : Strides) (m n : ℕ) : Type 0 where
 
 -- the strides of a face lead from each of its columns and rows to a sample of a plane
 abbrev pub FaceLeads : ℕ → Strides → Type 0
-FaceLeads A s = Leads A s (λ m n. natural (indexBy s m n))
+FaceLeads A s = StridesTo A s (λ m n. natural (indexBy s m n))
 
 -- the strides of a face in a table of all six, three numbers a face
 abbrev pub stridesIn : List ℤ → ℕ → Strides
@@ -57,7 +57,7 @@ withStrides table f s = set (set (set table (f * 3) (s .base)) (f * 3 + 1) (s .c
 
 -- a table that leads to the index of each place in the layout L
 abbrev pub LeadsTo : ℕ → List ℕ → List ℤ → Type 0
-LeadsTo A L table = (f : ℕ) → f < 6 → Leads A (stridesIn table f) (λ m n. index A L (place f m n))
+LeadsTo A L table = (f : ℕ) → f < 6 → StridesTo A (stridesIn table f) (λ m n. index A L (place f m n))
 
 -- the strides of each face lead to samples of a plane
 abbrev pub StrideTable : ℕ → List ℤ → Type 0

@@ -9,7 +9,7 @@ ghost use Rattle.cubemap.specs.Frames.{layoutBytes, spot, quarterTurns, indexIn
 ghost use Rattle.cubemap.specs.Frames as paper;
 ghost use Rattle.cubemap.specs.Checks.{layoutOK};
 ghost use Rattle.strides.specs.FaceStrides as by;
-ghost use Rattle.strides.specs.FaceStrides.{indexBy, Contiguous, Leads, Askable, FaceLeads, stridesIn, withStrides};
+ghost use Rattle.strides.specs.FaceStrides.{indexBy, Contiguous, StridesTo, Askable, FaceLeads, stridesIn, withStrides};
 ghost use Rattle.strides.specs.FaceStrides.{LeadsTo, StrideTable};
 ghost use Rattle.strides.specs.FaceStrides.{Aligned, StridedFace, sampleOnFace, RowOf};
 use cubemap::Layout;
@@ -28,7 +28,7 @@ pub struct Strides {
 // The strides of the face in a slot.
 fn strides_in_slot(size: u64, slot: u64, turns: u64) -> Strides
     requires { ⌜ (1 ≤ size) × (size ≤ 512) × (slot < 6) × (turns < 4) ⌝ }
-    ensures { λ r. ⌜ Leads size r (λ m n. indexInSlot size slot (quarterTurns size turns (spot m n))) ⌝ }
+    ensures { λ r. ⌜ StridesTo size r (λ m n. indexInSlot size slot (quarterTurns size turns (spot m n))) ⌝ }
 {
     let width = 3 * size;
     let last = size - 1;
@@ -61,7 +61,7 @@ fn strides_in_slot(size: u64, slot: u64, turns: u64) -> Strides
 // The strides of a face in a layout.
 fn strides_of(size: u64, layout: Layout, face: u64) -> Strides
     requires { ⌜ (1 ≤ size) × (size ≤ 512) × T (layoutOK (layoutBytes layout)) × (face < 6) ⌝ }
-    ensures { λ r. ⌜ Leads size r (λ m n. paper.index size (layoutBytes layout) (place face m n)) ⌝ }
+    ensures { λ r. ⌜ StridesTo size r (λ m n. paper.index size (layoutBytes layout) (place face m n)) ⌝ }
 {
     let slot = frame::slot_of(layout, face);
     strides_in_slot(size, slot, frame::turns_in(layout, slot))
@@ -141,12 +141,19 @@ pub fn mirrored(size: u64, strides: Strides) -> Strides
     }
 }
 
+// Does a row of the face run along a row of the frame, ahead or back?
+pub fn runs_along(strides: Strides) -> bool
+    ensures { λ r. ⌜ r ≡ by.runsAlong strides ⌝ }
+{
+    let across = strides.column;
+    arithmetic::magnitude(across) == 1
+}
+
 // The strides, with columns and rows exchanged where a row by the guide's strides runs down the frame.
 fn along(guide: Strides, strides: Strides) -> Strides
     ensures { λ r. ⌜ r ≡ by.along guide strides ⌝ }
 {
-    let column_stride = guide.column;
-    if arithmetic::magnitude(column_stride) == 1 {
+    if runs_along(guide) {
         strides
     } else {
         exchanged(strides)

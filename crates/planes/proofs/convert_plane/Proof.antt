@@ -11,7 +11,7 @@ use Rattle.arithmetic.proofs.ListParts.{part-length}
 use Rattle.cubemap.specs.Frames.{framed, planeSamples}
 use Rattle.cubemap.proofs.Framed.{framed-cong}
 use Rattle.frame.specs.Placing.{placed}
-use Rattle.frame.proofs.Placing.{Placed, kept, none-placed, placed-run, put-placed, placed-all}
+use Rattle.frame.proofs.Placing.{Placed, kept, none-placed, placed-more, put-placed, placed-all}
 use Rattle.strides.proofs.StrideIndices.{plane-small}
 use Rattle.positions.specs.RayLines.{coordinateAt}
 use Rattle.cubic.specs.Sources.{Source}
@@ -61,21 +61,8 @@ module _ (l : tie.At-loop Inv-loop μ-loop) where
     -- one more run
     next : {after : List ℕ} → after ≡ placed 2 (l .loop .target) (run * A) (λ j. f (run * A + j)) A
         → Placed 2 0 f (start .args .target .now) after (planeSamples A) ((run + 1) * A)
-    next e = record {
-      bounded = omega (arith, room);
-      holds = e
-          ∙ ap (λ bytes. placed 2 bytes (run * A) (λ j. f (run * A + j)) A) (l .loop .inv .0 .holds)
-          ∙ ap (λ k. placed 2 (placed 2 (start .args .target .now) 0 f (run * A)) k (λ j. f (run * A + j)) A)
-          (from-none (run * A))
-          ∙ placed-run 2 (start .args .target .now) 0 f (run * A) A (omega (arith, room, start .pre .1))
-          ∙ ap (placed 2 (start .args .target .now) 0 f) (one-more run A);
-    }
-      where
-        from-none : (k : ℕ) → k ≡ 0 + k
-        from-none k = omega arith
-
-        one-more : (r A : ℕ) → r * A + A ≡ (r + 1) * A
-        one-more r A = omega arith
+    next e = placed-more 2 A ((run + 1) * A) (l .loop .inv .0) (omega arith) (omega (arith, room))
+        (omega (arith, start .pre .1)) e
 
   -- all of them
   done : 6 * A ≤ run → l .loop .target ≡ framed 2 f (planeSamples A)

@@ -18,7 +18,7 @@ use Rattle.cubemap.proofs.Faces.{chosen}
 use Rattle.cubemap.proofs.Framed.{framed-cong}
 use Rattle.cubemap.proofs.RotatedRays.{RotatedRay}
 use Rattle.frame.specs.Placing.{placed}
-use Rattle.frame.proofs.Placing.{Placed, kept, none-placed, placed-run, put-placed, placed-all}
+use Rattle.frame.proofs.Placing.{Placed, kept, none-placed, placed-more, put-placed, placed-all}
 use Rattle.strides.specs.FaceStrides.{sampleBy}
 use Rattle.positions.specs.declared.FaceLines.{FaceLines}
 use Rattle.positions.specs.RayLines.{coordinateAt, Stretch, Positioned}
@@ -220,19 +220,8 @@ module _ (p : tie.After-positions-on-face Inv-loop μ-loop) where
   -- one more stretch
   next : {after : List ℕ} → after ≡ placed 2 (b .loop .target) (from b) (λ j. value b (from b + j)) n
       → Placed 2 0 (value b) (s .args .target .now) after (count b) (to (e d))
-  next e₁ = record {
-    bounded = end (e d);
-    holds = e₁
-        ∙ ap (λ bytes. placed 2 bytes (from b) (λ j. value b (from b + j)) n) (b .loop .inv .0 .holds)
-        ∙ ap (λ k. placed 2 (placed 2 (s .args .target .now) 0 (value b) (from b)) k (λ j. value b (from b + j)) n)
-        (none (from b))
-        ∙ placed-run 2 (s .args .target .now) 0 (value b) (from b) n
-        (omega (arith, order (e d), end (e d), s .pre .1 .0 .1))
-        ∙ ap (placed 2 (s .args .target .now) 0 (value b)) (omega (arith, order (e d)));
-  }
-    where
-      none : (k : ℕ) → k ≡ 0 + k
-      none k = omega arith
+  next e₁ = placed-more 2 n (to (e d)) (b .loop .inv .0) (omega (arith, order (e d))) (end (e d))
+      (omega (arith, s .pre .1 .0 .1)) e₁
 
 sub-sample-table : tie.Need-sub-sample-table Inv-loop μ-loop
 sub-sample-table c = omega (arith, order (e (d (c .before .before .before))))

@@ -5,14 +5,14 @@ use native.Mathlib.Omega.{arith}
 use Rattle.cubemap.specs.declared.Layout.{Layout}
 use Rattle.cubemap.specs.Frames.{place, layoutBytes, index}
 use Rattle.strides.specs.declared.Strides.{Strides}
-use Rattle.strides.specs.FaceStrides.{Leads}
+use Rattle.strides.specs.FaceStrides.{StridesTo}
 use Rattle.strides.proofs.StrideTables.{Filled, filled-none, filled-next}
 use Rattle.strides.proofs.face_strides.Statement.{statement}
 use Rattle.strides.proofs.face_strides.Tie as tie
 
 -- what is asked of the strides of a face
 abbrev LedTo : ℕ → Layout → ℕ → Strides → Type 0
-LedTo size layout f s = Leads size s (λ m n. index size (layoutBytes layout) (place f m n))
+LedTo size layout f s = StridesTo size s (λ m n. index size (layoutBytes layout) (place f m n))
 
 abbrev Inv-loop : tie.InvT-loop
 Inv-loop size layout table₀ face₀ table face = Filled (LedTo size layout) table face

@@ -9,7 +9,7 @@ use mir.Val.{toZ}
 use borrow.Author.Needs.{needs}
 use Rattle.arithmetic.proofs.Held.{Held, held-nat, opposite-ok, opposite}
 use Rattle.cubemap.specs.Frames.{spot, quarterTurns, indexInSlot}
-use Rattle.strides.specs.FaceStrides.{Leads}
+use Rattle.strides.specs.FaceStrides.{StridesTo}
 use Rattle.strides.proofs.StrideIndices.{strides, same-strides, corner, last-below, strides-0, strides-1, strides-2, strides-3}
 use Rattle.strides.proofs.strides_in_slot.Statement.{statement}
 use Rattle.strides.proofs.strides_in_slot.Tie as tie
@@ -33,9 +33,9 @@ module _ (c : tie.Start) where
 
   -- the slot is turned k times, and the strides are as they are read
   turned : {b d e x y z : ℤ} (k : ℕ) → c .args .turns ≡ k → b ≡ x → d ≡ y → e ≡ z
-      → Leads A (strides x y z) (λ m n. indexInSlot A slot (quarterTurns A k (spot m n)))
-      → Leads A (strides b d e) (λ m n. indexInSlot A slot (quarterTurns A (c .args .turns) (spot m n)))
-  turned {b} {d} {e} k t p q r s = subst (λ k. Leads A (strides b d e) (λ m n. indexInSlot A slot (quarterTurns A k (spot m n)))) (sym t)
+      → StridesTo A (strides x y z) (λ m n. indexInSlot A slot (quarterTurns A k (spot m n)))
+      → StridesTo A (strides b d e) (λ m n. indexInSlot A slot (quarterTurns A (c .args .turns) (spot m n)))
+  turned {b} {d} {e} k t p q r s = subst (λ k. StridesTo A (strides b d e) (λ m n. indexInSlot A slot (quarterTurns A k (spot m n)))) (sym t)
       (same-strides p q r s)
 
 returns : tie.Need-returns

@@ -1,19 +1,18 @@
 -- `nearest_stretch` meets its contract: the strides are those of the face in the table, or those with columns and rows
 -- exchanged, which read the same.
-use mathlib.Core.Path.{_≡_, sym, _∙_, ap, subst}
+use mathlib.Core.Path.{sym, _∙_, ap, subst}
 use Prim.Native.Nat.{ℕ}
 use native.Mathlib.Omega.{arith}
-use lib.IntN.{ℤ, natAbs}
+use lib.IntN.{ℤ}
 use lib.ListN.{length}
 use borrow.Author.Needs.{needs}
-use Rattle.arithmetic.proofs.Held.{read-back}
 use Rattle.cubemap.specs.Frames.{framed}
 use Rattle.cubemap.specs.RayToPlace.{located}
 use Rattle.cubemap.specs.Samplers.{nearestPlace}
 use Rattle.cubemap.proofs.Framed.{framed-cong}
 use Rattle.strides.specs.declared.Strides.{Strides}
 use Rattle.strides.specs.FaceStrides.{Contiguous, StridedFace, sampleBy}
-use Rattle.strides.proofs.StrideIndices.{face-of, exchanged-face}
+use Rattle.strides.proofs.StrideIndices.{along-contiguous, along-not, face-of, exchanged-face}
 use Rattle.cubic.specs.PositionTables.{positionIn}
 use Rattle.cubic.proofs.PositionTables.{positions-exchanged}
 use Rattle.sampling.proofs.NearestValues.{nearest-on-face, nearest-exchanged}
@@ -45,16 +44,10 @@ module _ (c : tie.After-strides-at) where
   value j = sampleBy (start .args .plane .now) (start .args .strides .now)
       (nearestPlace (start .args .size) (located (start .args .face) (column j) (row j)))
 
--- the column stride, as it is read
-read : (c : tie.After-magnitude) → c .magnitude .result ≡ natAbs (on (c .before .before) .column)
-read c =
-    let t : tie.After-strides-at = c .before .before in
-    read-back natAbs (on t .column) (search needs) (c .magnitude .ensures)
-
 returns : tie.Need-returns
 returns c =
     let f : tie.After-nearest-in-rows = c .before .before in
-    let t : tie.After-strides-at = f .before .before .before .before .before .before in
+    let t : tie.After-strides-at = f .before .before .before .before .before in
     let a = start t .args in (
       f .nearest-in-rows .ensures .0 ∙ framed-cong 2 _ (value t) (length (a .columns .now)) (λ j l.
           nearest-on-face (a .size) (a .face) (a .plane .now) (a .strides .now) (on t) (t .strides-at .ensures)
@@ -66,7 +59,7 @@ returns-2 : tie.Need-returns-2
 returns-2 c =
     let f : tie.After-nearest-in-rows2 = c .before .before in
     let e : tie.After-exchanged = f .before .before .before in
-    let t : tie.After-strides-at = e .before .before .before .before in
+    let t : tie.After-strides-at = e .before .before .before in
     let a = start t .args in (
       f .nearest-in-rows2 .ensures .0
           ∙ framed-cong 2 _ (value t) (length (a .rows .now)) (λ j l.
@@ -79,15 +72,17 @@ returns-2 c =
 strides-at-requires : tie.Need-strides-at-requires
 strides-at-requires c κs = search needs
 
-magnitude-requires : tie.Need-magnitude-requires
-magnitude-requires c κs = search needs
+runs-along-requires : tie.Need-runs-along-requires
+runs-along-requires c κs = search needs
 
 nearest-in-rows-requires : tie.Need-nearest-in-rows-requires
 nearest-in-rows-requires c κs =
     let i : tie.Then1 = c .before .before in
-    let t : tie.After-strides-at = i .before .before .before in
-    let p = start t .pre in
-    ((strided t, sym (read (i .before)) ∙ i .if1 .taken, p .0 .0 .size-least), (p .0 .2, p .1 .0, p .1 .1))
+    let t : tie.After-strides-at = i .before .before in
+    let p = start t .pre in (
+      (strided t, along-contiguous (on t) (sym (i .before .runs-along .ensures) ∙ i .if1 .taken), p .0 .0 .size-least),
+      (p .0 .2, p .1 .0, p .1 .1),
+    )
 
 exchanged-requires : tie.Need-exchanged-requires
 exchanged-requires c κs = search needs
@@ -95,11 +90,11 @@ exchanged-requires c κs = search needs
 nearest-in-rows-requires-2 : tie.Need-nearest-in-rows-requires-2
 nearest-in-rows-requires-2 c κs =
     let e : tie.After-exchanged = c .before .before in
-    let m : tie.After-magnitude = e .before .before in
-    let t : tie.After-strides-at = m .before .before in
+    let m : tie.After-runs-along = e .before .before in
+    let t : tie.After-strides-at = m .before in
     let p = start t .pre in
     let is = sym (e .exchanged .ensures) in
-    let either = strided t .leads .either (λ h. e .before .if1 .left (read m ∙ h)) in (
+    let either = strided t .leads .either (along-not (on t) (sym (m .runs-along .ensures) ∙ e .before .if1 .left)) in (
       (subst (OnFace t) is (exchanged-face (strided t)), subst Contiguous is either, p .0 .0 .size-least),
       (positions-exchanged (p .0 .2), omega (arith, p .0 .2 .same-count, p .1 .0), p .1 .1),
     )
@@ -115,7 +110,7 @@ nearest-stretch-spec =
     tie.close
     (tie.spec
     strides-at-requires
-    magnitude-requires
+    runs-along-requires
     nearest-in-rows-requires
     exchanged-requires
     nearest-in-rows-requires-2
