@@ -1,5 +1,7 @@
 // T + 32 in ACP along a stretch of columns, without a division: from tables of the distances, of their reciprocals, and
 // of the sums x + d, which T + 32 replaces.
+#![tactic(auto)]
+
 ghost use Rattle.std.specs.Prelude.{◌≡◌, true, ℕ, ◌+◌, ◌*◌, ◌≤◌, ◌<◌, length};
 ghost use Rattle.reciprocals.specs.Reciprocals.{Distances, Reciprocal, Reciprocals};
 ghost use Rattle.adjusted.specs.Adjusted.{Sums, AdjustedStretch, Adjusted, KeptOutside};

@@ -1,4 +1,6 @@
 // What a call answers, on its way to C: numbers in a lent buffer.
+#![tactic(auto)]
+
 ghost use Rattle.std.specs.Prelude.{◌≡◌, ◌+◌, ◌%◌, ◌≤◌, ◌<◌, pos, length};
 ghost use Rattle.std.proofs.lemmas.List.Edits.{sets};
 ghost use Rattle.cubemap.specs.Interface.{little_endian, twos_complement, put_at, put_all};

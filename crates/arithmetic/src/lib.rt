@@ -1,5 +1,7 @@
 // Small functions on signed 64-bit numbers that the crates above share. The mathematics that the toolchain's libraries lack stands in
 // specs/ and proofs/.
+#![tactic(auto)]
+
 ghost use Rattle.std.specs.Prelude.{◌≡◌, ◌<◌, ◌^◌, leb, nat_abs};
 ghost use Rattle.arithmetic.specs.Integers.{with_sign_of};
 

@@ -1,4 +1,6 @@
 // The questions of the calls: one test for each, the answer that a call has come to, and the code of a refusal.
+#![tactic(auto)]
+
 ghost use Rattle.std.specs.Prelude.{◌≡◌, ◌&&◌, ◌+◌, ◌*◌, ◌≤◌, ◌<◌, T, length};
 ghost use Rattle.arithmetic.specs.Searches.{all_below};
 ghost use Rattle.cubemap.specs.Interface.{answer, is_accepted, return_code};

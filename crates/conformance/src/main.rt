@@ -16,6 +16,8 @@
 //
 // Behind a second heading, the line of one of the six calls holds its name, the numbers that it was given, the number of its refusal and the index,
 // and the numbers in its answer buffer, which are 0 where it wrote none: four of fold, one of equal, three of look_up.
+#![tactic(auto)]
+
 ghost use Rattle.std.specs.Prelude.{◌<◌};
 
 use cubemap::Rotation;

@@ -1,4 +1,6 @@
 // Convert: questions 1 to 10 in order, and then every sample of the target.
+#![tactic(auto)]
+
 ghost use Rattle.std.specs.Prelude.{◌≡◌, length};
 ghost use Rattle.cubemap.specs.Checks.{convert_settings};
 ghost use Rattle.cubemap.specs.Outcomes.{outcome, converted_bytes, convert_answer, convert_outcome, converted_means};

@@ -1,21 +1,22 @@
 // The shared types of the part. What their numbers mean stands in specs/, one module for each section of the paper.
+#![tactic(auto)]
 
 // The two formats of faces: plain (CMP, code 0) and adjusted (ACP, code 1).
-#[derive(Drop)]
+#[derive(Clone, Copy)]
 pub enum Format {
     Cmp,
     Acp,
 }
 
 // The two samplers, codes 0 and 1.
-#[derive(Drop)]
+#[derive(Clone, Copy)]
 pub enum Sampler {
     Nearest,
     Cubic,
 }
 
 // What a frame travels with beside its layout: face size, depth in bits, format code.
-#[derive(Drop)]
+#[derive(Clone, Copy)]
 pub struct Shape {
     pub size: u64,
     pub depth: u64,
@@ -23,7 +24,7 @@ pub struct Shape {
 }
 
 // A place (f, m, n): a sample of a face.
-#[derive(Drop)]
+#[derive(Clone, Copy)]
 pub struct Place {
     pub face: u64,
     pub column: u64,
@@ -31,14 +32,14 @@ pub struct Place {
 }
 
 // A layout of 12 bytes taken apart: the faces of the six slots, and their counts of clockwise quarter turns.
-#[derive(Drop)]
+#[derive(Clone, Copy)]
 pub struct Layout {
     pub faces: [u8; 6],
     pub turns: [u8; 6],
 }
 
 // A ray. X points to the front, Y to the top, Z to the right.
-#[derive(Drop)]
+#[derive(Clone, Copy)]
 pub struct Ray {
     pub x: i64,
     pub y: i64,
@@ -46,7 +47,7 @@ pub struct Ray {
 }
 
 // A rotation (the paper's turn): four whole numbers, a quaternion that is not divided by its length.
-#[derive(Drop)]
+#[derive(Clone, Copy)]
 pub struct Rotation {
     pub e0: i64,
     pub e1: i64,
@@ -55,7 +56,7 @@ pub struct Rotation {
 }
 
 // Where a ray falls: a face, and the column and row there in 64ths of a sample (the paper's T).
-#[derive(Drop)]
+#[derive(Clone, Copy)]
 pub struct Located {
     pub face: u64,
     pub column: i64,
@@ -63,7 +64,7 @@ pub struct Located {
 }
 
 // A refusal (the paper's "no"): a case for each question, 1 to 16. Questions 10 and 11 bring the lowest offending index, which is below 6·512².
-#[derive(Drop)]
+#[derive(Clone, Copy)]
 pub enum Refusal {
     FaceSize,
     TargetSize,
@@ -84,35 +85,35 @@ pub enum Refusal {
 }
 
 // What convert answers. What it writes goes into the target's buffer.
-#[derive(Drop)]
+#[derive(Clone, Copy)]
 pub enum Converted {
     Accepted,
     Refused(Refusal),
 }
 
 // What score answers: the weighted error sum and the sum of the weights.
-#[derive(Drop)]
+#[derive(Clone, Copy)]
 pub enum Scored {
     Sums { errors: u64, weights: u64 },
     Refused(Refusal),
 }
 
 // What fold answers: the folded rotation.
-#[derive(Drop)]
+#[derive(Clone, Copy)]
 pub enum Folded {
     Composed(Rotation),
     Refused(Refusal),
 }
 
 // What the test of two rotations for equality answers.
-#[derive(Drop)]
+#[derive(Clone, Copy)]
 pub enum Compared {
     Equal(bool),
     Refused(Refusal),
 }
 
 // What look-up answers, and what a record of the listing comes to.
-#[derive(Drop)]
+#[derive(Clone, Copy)]
 pub enum LookedUp {
     At(Located),
     Refused(Refusal),

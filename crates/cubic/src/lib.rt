@@ -1,5 +1,7 @@
 // The cubic value at each position of a stretch of one face. Where all sixteen taps are inside the face, four of a row
 // are read at once; at the rim each tap is read by its place.
+#![tactic(auto)]
+
 ghost use Rattle.std.specs.Prelude.{◌≡◌, ◌*◌, ◌<◌, length};
 ghost use Rattle.cubemap.specs.declared.Sampler.{Sampler};
 ghost use Rattle.cubemap.specs.Frames.{framed};

@@ -1,5 +1,7 @@
 // Squared differences of two planes: of a row and of its mirror, the opposite row, on all six faces, summed up for each
 // column.
+#![tactic(auto)]
+
 ghost use Rattle.std.specs.Prelude.{◌≡◌, suc, ◌+◌, ◌*◌, ◌-◌, ◌≤◌, ◌<◌, pos, get_or, set};
 ghost use Rattle.arithmetic.specs.Sums.{both_terms};
 ghost use Rattle.cubemap.specs.Frames.{sample_at};

@@ -1,5 +1,7 @@
 // Fold: questions 6, 7 and 12 in order, and then the folded rotation. Equality: questions 6 and 7, and then whether two
 // rotations are equal.
+#![tactic(auto)]
+
 ghost use Rattle.std.specs.Prelude.{◌≡◌, T};
 ghost use Rattle.cubemap.specs.Interface.{is_accepted};
 ghost use Rattle.cubemap.specs.Checks.{first_failed, equal_checks};

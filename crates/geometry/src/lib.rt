@@ -1,4 +1,6 @@
 // From place to ray and from ray to place, on 64-bit numbers.
+#![tactic(auto)]
+
 ghost use Rattle.std.specs.Prelude.{◌≡◌, ℕ, ◌/◌, ◌≤◌, ◌<◌, T, get_or, pos, nat_abs};
 ghost use Rattle.cubemap.specs.Interface.{format_of};
 ghost use Rattle.cubemap.specs.PlaceToRay as paper;

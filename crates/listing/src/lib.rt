@@ -1,4 +1,6 @@
 // The listing program's work: bytes of records go in, the bytes of the listing come out in a lent buffer.
+#![tactic(auto)]
+
 ghost use Rattle.std.specs.Prelude.{◌≡◌, [], ◌∷◌, ◌+◌, ◌^◌, ◌≤◌, ◌<◌, pos, length};
 ghost use Rattle.cubemap.specs.Checks.{first_failed};
 ghost use Rattle.cubemap.specs.Outcomes.{looked_up_means, look_up_values, refusal};

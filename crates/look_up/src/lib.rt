@@ -1,4 +1,6 @@
 // Look-up: questions 1, 4, 13 and 14 in order, and then where the ray falls.
+#![tactic(auto)]
+
 ghost use Rattle.std.specs.Prelude.{◌≡◌};
 ghost use Rattle.cubemap.specs.Checks.{first_failed, look_up_checks};
 ghost use Rattle.cubemap.specs.Outcomes.{looked_up_means, look_up_result};

@@ -1,5 +1,7 @@
 // T + 32 in CMP along a stretch of evenly spaced columns: guessed by any means, and confirmed in whole numbers.
 // One table has the columns and their rows: column i at entry i, its row at entry 512 + i.
+#![tactic(auto)]
+
 ghost use Rattle.std.specs.Prelude.{◌≡◌, true, ◌+◌, ◌*◌, ◌-◌, ◌≤◌, ◌<◌, pos, neg_ℤ, nat_abs, ◌+ℤ◌, ◌*ℤ◌, length};
 ghost use Rattle.arithmetic.specs.Integers.{natural};
 ghost use Rattle.plain.specs.Walks.{size_at, rest_at, width_at, WalkInRange, Forward, Walks, Carries, Plain};

@@ -1,6 +1,8 @@
 // From the plane of a source to the plane of a target. The target is written in the order of its indices, run after
 // run: a run is a row of a slot. Along it the rotated ray moves by a multiple of one axis, so the matrix is applied
 // twice a run and not to every ray.
+#![tactic(auto)]
+
 ghost use Rattle.std.specs.Prelude.{◌≡◌, ◌*◌, ◌≤◌, ◌<◌, T, nat_abs, length};
 ghost use Rattle.cubemap.specs.Frames.{plane_samples, framed};
 ghost use Rattle.cubemap.specs.Checks.{rotation_in_range};

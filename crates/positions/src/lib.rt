@@ -1,5 +1,7 @@
 // T of a ratio: where x / d of the way from the middle of a face to its edge lies, in 64ths of a sample, by division of
 // whole numbers; of one ratio, and of those of all rays along a stretch.
+#![tactic(auto)]
+
 mod lines;
 mod ratios;
 

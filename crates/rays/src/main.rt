@@ -1,5 +1,7 @@
 // Reads records from standard input and prints their listing. No contract can say what a program reads or writes: the work is `listing::list`,
 // which is proved to give the paper's listing of whatever bytes it is lent.
+#![tactic(auto)]
+
 ghost use Rattle.std.specs.Prelude.{length};
 ghost use Rattle.rays.specs.Inputs.{Within};
 

@@ -1,4 +1,6 @@
 // Reciprocals of the distances along a stretch: guessed, and confirmed in whole numbers. A guess is never relied on, so that nothing is proved of it.
+#![tactic(auto)]
+
 ghost use Rattle.std.specs.Prelude.{◌≡◌, true, ◌+◌, ◌*◌, ◌^◌, ◌≤◌, ◌<◌, length, get_or};
 ghost use Rattle.reciprocals.specs.Reciprocals.{Distances, Reciprocals};
 

@@ -1,5 +1,7 @@
 // Along a row of rays: which faces of the source they meet, where, and the sampler's values there. The row is cut into
 // stretches whose rays meet one face: first their positions are found, all of them, then their samples.
+#![tactic(auto)]
+
 ghost use Rattle.std.specs.Prelude.{◌≡◌, ◌*◌, ◌≤◌, ◌<◌, nat_abs, length};
 ghost use Rattle.cubemap.specs.Frames.{framed};
 ghost use Rattle.cubemap.specs.RayToPlace.{face_of, located};

@@ -1,4 +1,6 @@
 // Rotations (the paper's turns) on 64-bit numbers: the matrix applied to a ray, product, reduction to lowest terms, fold and equality.
+#![tactic(auto)]
+
 ghost use Rattle.std.specs.Prelude.{◌≡◌, ◌+◌, ◌*◌, ◌%◌, ◌^◌, ◌≤◌, ◌<◌, T, nat_abs};
 ghost use Rattle.std.specs.Int.Count.{count_trailing_zeros};
 ghost use Rattle.arithmetic.proofs.Divisors.{IsGcd};

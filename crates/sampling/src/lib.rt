@@ -1,4 +1,6 @@
 // The two samplers at each position of a stretch of one face.
+#![tactic(auto)]
+
 ghost use Rattle.std.specs.Prelude.{◌≡◌, ◌*◌, ◌<◌, length};
 ghost use Rattle.cubemap.specs.Interface.{sampler_of};
 ghost use Rattle.cubemap.specs.Frames.{framed};

@@ -1,4 +1,6 @@
 // Score: questions 1, 3, 4, 5 and 8 to 11 in order, and then the two sums.
+#![tactic(auto)]
+
 ghost use Rattle.std.specs.Prelude.{◌≡◌, ◌*◌, ◌≤◌, ◌<◌, get_or};
 ghost use Rattle.arithmetic.specs.Sums.{sum_below, both_terms};
 ghost use Rattle.cubemap.specs.Score.{error_sum, weight_sum};

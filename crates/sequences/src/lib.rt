@@ -1,5 +1,7 @@
 // Lists of conversions by cube rotations. What such a list is held to stands in specs/, and that it is so is proved in proofs/ of every program whose
 // calls keep the promises. The function here is one such program: its contract is drawn from that theorem.
+#![tactic(auto)]
+
 ghost use Rattle.cubemap.specs.Promises.{ConvertPromise};
 ghost use Rattle.sequences.specs.Twice.{turn_call, TurnedTwice};
 

@@ -1,5 +1,7 @@
 // T + 32 along a stretch of rays on one face, for the columns and for the rows: guessed and confirmed, or by division
 // where a guess is not confirmed. A table of positions has that of column j at index j, and that of its row at 512 + j.
+#![tactic(auto)]
+
 ghost use Rattle.std.specs.Prelude.{◌≡◌, true, ◌<◌, length};
 ghost use Rattle.positions.specs.RayLines.{Stretch, Positioned};
 ghost use Rattle.stretches.specs.Numbers.{Evenly};

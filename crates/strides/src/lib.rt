@@ -1,4 +1,6 @@
 // Where places stand in a frame: the index of a place, by the base and the two strides of its face.
+#![tactic(auto)]
+
 ghost use Rattle.std.specs.Prelude.{◌≡◌, ◌≤◌, ◌<◌, T, pos};
 ghost use Rattle.arithmetic.specs.Integers.{natural};
 ghost use Rattle.cubemap.specs.Frames.{place, IsPlace, plane_samples};

@@ -1,5 +1,7 @@
 // Sixteen samples by the weights of their taps, with twelve products: two sums of four samples are found at once, in the lower and in the upper half of a
 // 64-bit number.
+#![tactic(auto)]
+
 ghost use Rattle.std.specs.Prelude.{◌≡◌, ◌+◌, ◌*◌, ◌^◌, ◌≤◌, ◌<◌, pos, nat_abs, length};
 ghost use Rattle.cubemap.specs.Frames.{sample_at};
 ghost use Rattle.taps.specs.TapWeights as by;

@@ -1,5 +1,7 @@
 // The frame view: a frame as one thing, its bytes with shape and layout beside them. It is thin over `sample_at`, which
 // has them apart; callers that hold no view use `read_sample`. Samples are read from luma.
+#![tactic(auto)]
+
 ghost use Rattle.std.specs.Prelude.{◌≡◌};
 ghost use Rattle.cubemap.specs.Frames.{IsPlace, frame_sample};
 ghost use Rattle.view.specs.Views.{shown, frame_of, Readable};

@@ -1,4 +1,6 @@
 // The weights of a row: for each column the largest whole number under equation 109.
+#![tactic(auto)]
+
 ghost use Rattle.std.specs.Prelude.{◌≡◌, ◌+◌, ◌*◌, ◌/◌, ◌^◌, ◌≤◌, ◌<◌, nat_abs, length};
 ghost use Rattle.cubemap.specs.PlaceToRay.{from_centre};
 ghost use Rattle.cubemap.proofs.Weights.{length_squared};

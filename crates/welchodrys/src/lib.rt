@@ -1,4 +1,6 @@
 // The calls that C makes: numbers and lent buffers go in, a code and bytes come out. Each is thin over the function that does the work.
+#![tactic(auto)]
+
 ghost use Rattle.cubemap.specs.PlaceToRay.{ray};
 ghost use Rattle.cubemap.specs.Frames.{shape_of};
 ghost use Rattle.cubemap.specs.Checks.{convert_settings, score_settings};

@@ -2,16 +2,12 @@
 use mathlib.Core.Bool.{◌&&◌}
 use borrow.Author.Rules.{rules}
 use Rattle.arithmetic.proofs.Held.{bits-equal}
-use Rattle.rotation.proofs.same_numbers.Statement.{statement}
-use Rattle.rotation.proofs.same_numbers.Tie as tie
+use Rattle.rotation.proofs.same_numbers.Goals as goal
 
-returns : tie.Need-returns
+pub returns : goal.returns
 returns c =
     let s = c.before.before.before.before.before.before.before.before in
     let a = s.args.a in
     let b = s.args.b in
     λ i. bits-equal a.e0 b.e0 (search rules) (search rules) i && bits-equal a.e1 b.e1 (search rules) (search rules) i
     && bits-equal a.e2 b.e2 (search rules) (search rules) i && bits-equal a.e3 b.e3 (search rules) (search rules) i
-
-pub same-numbers-spec : {M : Type 1} → statement M
-same-numbers-spec = tie.close (tie.spec returns)

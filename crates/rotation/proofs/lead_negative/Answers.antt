@@ -6,13 +6,9 @@ use lib.Signed.{lt_z}
 use mir.Facts.{to_z-of_z}
 use Rattle.arithmetic.proofs.Held.{bits-zero}
 use Rattle.cubemap.proofs.Reduction.{lead_is}
-use Rattle.rotation.proofs.lead_negative.Statement.{statement}
-use Rattle.rotation.proofs.lead_negative.Tie as tie
+use Rattle.rotation.proofs.lead_negative.Goals as goal
 
-returns : tie.Need-returns
+pub returns : goal.returns
 returns c =
     let x = c.args.x in
     ap₂ (λ z b. lt_z z (pos 0) || (b && c.args.rest)) (to_z-of_z c.ranges.x) (bits-zero x c.ranges.x) ∙ sym (lead_is x c.args.rest)
-
-pub lead-negative-spec : {M : Type 1} → statement M
-lead-negative-spec = tie.close (tie.spec returns)
