@@ -8,7 +8,7 @@ ghost use Rattle.adjusted.specs.Adjusted.{Sums, AdjustedStretch, Adjusted, KeptO
 ghost use Rattle.adjusted.specs.Bends.{Factors, PartNear, BendOf};
 
 // The numbers of equation 14 on faces of one size, on a scale of 2^48 for each 64th of a sample. A bend of 32 bits is multiplied faster.
-#[derive(Drop)]
+#[derive(Clone, Copy)]
 struct Bend {
     slope: u64,
     bend: u32,

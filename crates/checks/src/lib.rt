@@ -16,7 +16,7 @@ use cubemap::{Ray, Refusal, Rotation, Shape};
 // ---- one question after the other
 
 // What a call's questions have come to so far.
-#[derive(Drop)]
+#[derive(Clone, Copy)]
 pub enum Checked {
     Accepted,
     Refused(Refusal),
@@ -270,7 +270,7 @@ fn lowest_beyond(shape: Shape, bytes: &[u8]) -> u64
 
 // What a search of a frame's samples has found: whether each is within the depth, and else the lowest index of one that
 // is not.
-#[derive(Drop)]
+#[derive(Clone, Copy)]
 pub struct Found {
     pub within: bool,
     pub lowest: u32,

@@ -36,7 +36,7 @@ const ROOM: usize = 3145729;
 const LINE: usize = 572;
 
 // One conversion, and what is wrong with its buffers.
-#[derive(Drop)]
+#[derive(Clone, Copy)]
 struct Case {
     source_size: u64,
     target_size: u64,
@@ -51,7 +51,7 @@ struct Case {
 }
 
 // What a score came to: the code that the call returned and the two numbers of its answer.
-#[derive(Drop)]
+#[derive(Clone, Copy)]
 struct ScoreOutcome {
     code: u64,
     errors: u64,
@@ -59,7 +59,7 @@ struct ScoreOutcome {
 }
 
 // What a conversion came to: the code that the call returned, the digest of the target and six of its samples, and the score of the source against it.
-#[derive(Drop)]
+#[derive(Clone, Copy)]
 struct Outcome {
     code: u64,
     digest: u64,

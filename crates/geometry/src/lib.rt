@@ -162,7 +162,7 @@ pub fn face_of(v: Ray) -> u64
 }
 
 // A ray by the row of Table 4 for a face: u × d, v × d, and d, which is positive where the ray points towards the face.
-#[derive(Drop)]
+#[derive(Clone, Copy)]
 pub struct Facing {
     pub across: i64,
     pub down: i64,

@@ -7,7 +7,7 @@ ghost use Rattle.arithmetic.specs.Integers.{natural};
 ghost use Rattle.plain.specs.Walks.{size_at, rest_at, width_at, WalkInRange, Forward, Walks, Carries, Plain};
 
 // A number of the rays along a stretch: start + i·slope at its column i.
-#[derive(Drop)]
+#[derive(Clone, Copy)]
 pub struct Walk {
     pub start: i64,
     pub slope: i64,
@@ -16,7 +16,7 @@ pub struct Walk {
 // ---- confirmation
 
 // A number that is carried from column to column, with what it rises by and what it falls by.
-#[derive(Drop)]
+#[derive(Clone, Copy)]
 struct Carried {
     at: u64,
     up: u64,

@@ -15,14 +15,14 @@ use resampling::{Row, RowRays};
 use sampling::{Cube, Reading};
 
 // What a conversion writes: the cube of the target, and its layout.
-#[derive(Drop)]
+#[derive(Clone, Copy)]
 pub struct Target {
     pub cube: Cube,
     pub layout: Layout,
 }
 
 // What a conversion goes by.
-#[derive(Drop)]
+#[derive(Clone, Copy)]
 pub struct Conversion {
     pub source: Reading,
     pub target: Target,

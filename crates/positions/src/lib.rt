@@ -9,14 +9,14 @@ pub use lines::positions_by_division;
 pub use ratios::position;
 
 // A number of the rays along a row: start + a·slope where the coordinate of the column is a.
-#[derive(Drop)]
+#[derive(Clone, Copy)]
 pub struct Line {
     pub start: i64,
     pub slope: i64,
 }
 
 // The numbers of the rays along a row on one face: across it, down it, and the distance that both are divided by.
-#[derive(Drop)]
+#[derive(Clone, Copy)]
 pub struct FaceLines {
     pub across: Line,
     pub down: Line,

@@ -8,7 +8,7 @@ ghost use Rattle.rays.specs.Inputs.{Within};
 use libc::{STDIN_FILENO, STDOUT_FILENO};
 
 // What reading comes to.
-#[derive(Drop)]
+#[derive(Clone, Copy)]
 enum Input {
     Bytes(usize),
     Failed,

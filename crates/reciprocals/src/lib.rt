@@ -5,7 +5,7 @@ ghost use Rattle.std.specs.Prelude.{◌≡◌, true, ◌+◌, ◌*◌, ◌^◌, 
 ghost use Rattle.reciprocals.specs.Reciprocals.{Distances, Reciprocals};
 
 // The scale of a stretch, 2^(31 + shift), and whether each guess was confirmed.
-#[derive(Drop)]
+#[derive(Clone, Copy)]
 pub struct Scale {
     pub shift: u64,
     pub good: bool,

@@ -20,7 +20,7 @@ use sampling::Reading;
 
 // The rays along a row: start + a·slope at a column whose coordinate is a. `evenly` tells whether the columns are
 // evenly spaced, which those of adjusted faces are not.
-#[derive(Drop)]
+#[derive(Clone, Copy)]
 pub struct RowRays {
     pub start: Ray,
     pub slope: Ray,
@@ -28,7 +28,7 @@ pub struct RowRays {
 }
 
 // A row to be read: what is read, and the rays along it.
-#[derive(Drop)]
+#[derive(Clone, Copy)]
 pub struct Row {
     pub reading: Reading,
     pub rays: RowRays,

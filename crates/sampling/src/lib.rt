@@ -15,14 +15,14 @@ use cubemap::{Format, Sampler};
 mod nearest;
 
 // One end of a conversion: the face size and the format of its cube.
-#[derive(Drop)]
+#[derive(Clone, Copy)]
 pub struct Cube {
     pub size: u64,
     pub format: Format,
 }
 
 // What is read, and how: a cube, the depth of its samples, and the sampler.
-#[derive(Drop)]
+#[derive(Clone, Copy)]
 pub struct Reading {
     pub cube: Cube,
     pub depth: u64,

@@ -8,7 +8,7 @@ ghost use Rattle.sequences.specs.Twice.{turn_call, TurnedTwice};
 use cubemap::{Rotation, Shape};
 
 // What two calls of convert returned.
-#[derive(Drop)]
+#[derive(Clone, Copy)]
 pub struct Codes {
     pub first: u64,
     pub later: u64,

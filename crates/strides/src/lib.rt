@@ -18,7 +18,7 @@ use cubemap::{Layout, Place};
 
 // The base and the two strides of a face: its sample at column m and row n has the index
 // base + m·column + typeof.n.row.
-#[derive(Drop)]
+#[derive(Clone, Copy)]
 pub struct Strides {
     pub base: i64,
     pub column: i64,

@@ -20,7 +20,7 @@ pub fn tap_weights() -> [i64; 256]
 }
 
 // The weights of four taps. Below, u are those of the samples in a row and w those of the rows.
-#[derive(Drop)]
+#[derive(Clone, Copy)]
 pub struct Weights {
     pub w0: i64,
     pub w1: i64,
@@ -64,7 +64,7 @@ pub fn reversed(w: Weights) -> Weights
 }
 
 // The sizes of four weights: the outer weights are below zero or zero, the inner ones are not below zero.
-#[derive(Drop)]
+#[derive(Clone, Copy)]
 struct Sizes {
     s0: u64,
     s1: u64,

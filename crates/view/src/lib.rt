@@ -9,7 +9,7 @@ ghost use Rattle.view.specs.Views.{shown, frame_of, Readable};
 use cubemap::{Layout, Place, Shape};
 
 // A frame: its bytes, and beside them its face size, depth and format (the shape) and its layout.
-#[derive(Drop)]
+#[derive(Clone, Copy)]
 pub struct FrameView<'a> {
     pub bytes: &'a [u8],
     pub shape: Shape,

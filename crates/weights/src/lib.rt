@@ -13,7 +13,7 @@ use cubemap::Format;
 
 // The test of a weight, in numbers that fit 64 bits: W passes where W²·(high·2^30 + low) ≤ 2^30·limit.
 // (2^30 is 1,073,741,824.)
-#[derive(Drop)]
+#[derive(Clone, Copy)]
 struct WeightTest {
     high: u64,
     low: u64,

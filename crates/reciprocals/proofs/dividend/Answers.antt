@@ -1,0 +1,15 @@
+-- `dividend` meets its contract: 2^(31 + shift) is at most 2^60, so that nothing is shifted out.
+use native.Mathlib.Omega.{arith}
+use lib.Pow.{pow_pos}
+use borrow.Author.Rules.{rules}
+use Rattle.reciprocals.proofs.Confirming.{scaled, power-most}
+use Rattle.reciprocals.proofs.dividend.Goals as goal
+
+pub returns : goal.returns
+returns c =
+    let e = scaled 2147483648 c.args.shift (omega arith) c.requires in
+    let p = pow_pos c.args.shift in
+    (omega (arith, e, p), omega (arith, e, power-most c.args.shift c.requires))
+
+pub overflow_sub-result : goal.overflow_sub-result
+overflow_sub-result c = omega (arith, scaled 2147483648 c.args.shift (omega arith) c.requires, pow_pos c.args.shift)
