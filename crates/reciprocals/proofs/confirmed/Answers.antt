@@ -21,46 +21,42 @@ module _ (c : After-wide-distance) where
   distance_is = c.wide-distance.ensures.0
 
   distance-small : c.wide-distance.result ≤ 536870911
-  distance-small = subst (λ d. d ≤ 536870911) (sym distance_is) (c.requires.1.2.bounded j c.loop-j.invariant.begun c.loop-j-test.true)
+  distance-small = subst (λ d. d ≤ 536870911) (sym distance_is) (c.requires.from_lt_to.2.bounded j c.loop-j.invariant.begun c.loop-j-test.true)
 
 module _ (c : After-remainder_bits) where
   abbrev d : ℕ
-  d = get_or c.args.distances.now (j c) 0
+  d = get_or c.args.distances.now c.loop-j.j 0
 
   -- small bits tell that the guess is near
   near : c.remainder_bits.result < 4611686018427387904 → d < 2 * 2 ^ c.args.shift → Reciprocal c.args.shift d c.improved-nearer.result
-  near u = subst (λ d. d < 2 * 2 ^ c.args.shift → Reciprocal c.args.shift d c.improved-nearer.result) (distance_is c)
-      (remainder-near c.args.shift c.args.dividend c.wide-distance.result c.improved-nearer.result c.requires.0.1 (c.remainder_bits.ensures u))
+  near u = subst (λ d. d < 2 * 2 ^ c.args.shift → Reciprocal c.args.shift d c.improved-nearer.result) c.wide-distance.ensures.0
+      (remainder-near c.args.shift c.args.dividend c.wide-distance.result c.improved-nearer.result c.requires.shift_bound.1 (c.remainder_bits.ensures u))
 
 pub improved-near-requires : goal.improved-near-requires
 improved-near-requires c =
-    let w = c.before.before in
-    (omega arith, w.requires.0.0, distance-small w, c.wide-guess.ensures.1)
+    (omega arith, c.requires.shift_bound.0, distance-small (goal.at.improved-near-requires c).After-wide-distance, c.wide-guess.ensures.1)
 
 pub improved-nearer-requires : goal.improved-nearer-requires
 improved-nearer-requires c =
-    let w = c.before.before.before in
-    (omega arith, w.requires.0.0, distance-small w, c.improved-near.ensures)
+    (omega arith, c.requires.shift_bound.0, distance-small (goal.at.improved-nearer-requires c).After-wide-distance, c.improved-near.ensures)
 
 pub remainder_bits-requires : goal.remainder_bits-requires
 remainder_bits-requires c =
-    let w = c.before.before.before.before in
-    (w.requires.0.2, distance-small w, c.improved-nearer.ensures)
+    (c.requires.shift_bound.2, distance-small (goal.at.remainder_bits-requires c).After-wide-distance, c.improved-nearer.ensures)
 
 pub loop-j-preserved : goal.loop-j-preserved
 loop-j-preserved c =
-    let b = c.before.before in
+    let b = (goal.at.loop-j-preserved c).After-remainder_bits in
     gathered_next _ _ _ _ b.remainder_bits.result b.improved-nearer.result c.together-remainders.result c.together-sizes.result
-    b.loop-j.invariant b.loop-j-test.true b.requires.1.1 c.together-remainders.ensures
-    (c.together-sizes.ensures.0, subst (λ d. d ≤ c.together-sizes.result) (distance_is b) c.together-sizes.ensures.1) (near b)
+    b.loop-j.invariant b.loop-j-test.true b.requires.from_lt_to.1 c.together-remainders.ensures
+    (c.together-sizes.ensures.0, subst (λ d. d ≤ c.together-sizes.result) b.wide-distance.ensures.0 c.together-sizes.ensures.1) (near b)
 
 pub returns : goal.returns
 returns c =
-    let s = c.before.before in
     let v = c.loop-j.invariant in
     let remainders = ltb c.loop-j.remainders 4611686018427387904 in
-    let sizes = ltb c.loop-j.sizes ((2 * 2 ^ s.args.shift) % 2 ^ 64) in (
+    let sizes = ltb c.loop-j.sizes ((2 * 2 ^ c.args.shift) % 2 ^ 64) in (
       (λ e. gathered-all _ _ _ _ v c.loop-j-test.false (ltb→lt _ _ (and_left remainders sizes (passes e)))
-          (subst (λ n. c.loop-j.sizes < n) (scaled 2 s.args.shift (omega arith) s.requires.0.0) (ltb→lt _ _ (and_right remainders sizes (passes e))))),
+          (subst (λ n. c.loop-j.sizes < n) (scaled 2 c.args.shift (omega arith) c.requires.shift_bound.0) (ltb→lt _ _ (and_right remainders sizes (passes e))))),
       v.whole,
     )

@@ -8,15 +8,12 @@ use Rattle.reciprocals.proofs.eight.Goals as goal
 
 pub apart-requires : goal.apart-requires
 apart-requires c =
-    let a = c.before.before in
-    let s = a.before.before in
-    let j = s.args.j in (
-      subst (λ d. d ≤ 536870911) (sym a.wide-a.ensures.0) (s.requires.1.0.bounded j (omega arith) (omega arith)),
-      subst (λ d. d ≤ 536870911) (sym c.wide-b.ensures.0) (s.requires.1.0.bounded (j + 8) (omega arith) (omega arith)),
+    let j = c.args.j in (
+      subst (λ d. d ≤ 536870911) (sym c.wide-a.ensures.0) (c.requires.distances.0.bounded j (omega arith) (omega arith)),
+      subst (λ d. d ≤ 536870911) (sym c.wide-b.ensures.0) (c.requires.distances.0.bounded (j + 8) (omega arith) (omega arith)),
     )
 
 pub divided-requires : goal.divided-requires
 divided-requires c =
-    let s = c.before.before.before.before.before.before.before in
-    let j = s.args.j in
-    (omega arith, distances-within j (j + 8) s.requires.1.0 (omega arith) (omega arith), s.requires.1.1)
+    let j = c.args.j in
+    (omega arith, distances-within j (j + 8) c.requires.distances.0 (omega arith) (omega arith), c.requires.distances.1)

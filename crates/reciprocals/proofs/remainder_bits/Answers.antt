@@ -14,7 +14,7 @@ module _ (c : Start) where
 pub returns : goal.returns
 returns c h =
     let t = c.together.ensures in
-    (omega (arith, h, t.0, small c.before), omega (arith, h, t.1, small c.before))
+    (omega (arith, h, t.0, small (goal.at.returns c).Start), omega (arith, h, t.1, small (goal.at.returns c).Start))
 
 pub overflow_mul-rest : goal.overflow_mul-rest
 overflow_mul-rest c = omega (arith, small c)
