@@ -24,9 +24,9 @@ module _ (c : After-from_centre-p) where
   p-is : to_z w64 (of_z w64 c.from_centre-p.result) ≡ from_centre A m
   p-is = to_z-of_z {w = w64} {z = c.from_centre-p.result} (search rules) ∙ c.from_centre-p.ensures
 
-size_is : (c : After-magnitude) → let p : After-from_centre-p = c.before.before.before in
+size_is : (c : After-magnitude) → let p : After-from_centre-p = c.before.before in
     c.magnitude.result ≡ nat_abs (from_centre (A p) (m p))
-size_is c = c.magnitude.ensures ∙ ap nat_abs (p-is c.before.before.before)
+size_is c = c.magnitude.ensures ∙ ap nat_abs (p-is c.before.before)
 
 pub curve-requires : goal.curve-requires
 curve-requires c =
@@ -39,11 +39,11 @@ with_sign_of-requires c =
 pub returns-in-Cmp : goal.returns-in-Cmp
 returns-in-Cmp c =
     let p = (goal.at.returns-in-Cmp c).After-from_centre-p in
-    p-is p ∙ ap (λ f. face_coordinate f (A p) (m p)) (sym c.enum_told-1.given.1)
+    p-is p ∙ ap (λ f. face_coordinate f (A p) (m p)) (sym c.in-Cmp.is)
 
 pub returns-in-Acp : goal.returns-in-Acp
 returns-in-Acp c =
     let p = (goal.at.returns-in-Acp c).After-from_centre-p in
     to_z-of_z {w = w64} {z = c.with_sign_of.result} (search rules) ∙ c.with_sign_of.ensures
     ∙ ap₂ with_sign_of (p-is p) (c.curve.ensures ∙ ap (curve (A p)) (size_is (goal.at.returns-in-Acp c).After-magnitude))
-    ∙ ap (λ f. face_coordinate f (A p) (m p)) (sym c.enum_told-in-Acp-1.given.1)
+    ∙ ap (λ f. face_coordinate f (A p) (m p)) (sym c.in-Acp.is)

@@ -39,12 +39,12 @@ module _ (c : After-magnitude-sz) where
 not-x : (c : Joined-else-sy-sx) → let v : Ray = v c.before in nat_abs v.y ≤ nat_abs v.x → nat_abs v.z ≤ nat_abs v.x → ⊥
 not-x c p q =
     let t : After-magnitude-sz = c.before in
-    ⊎_elim (λ w. omega (arith, size-x t, size-z t, leb-false)) (λ w. omega (arith, size-x t, size-y t)) c.if-sy-sx.branch
+    ⊎_elim (λ w. omega (arith, size-x t, size-z t, leb-false)) (λ w. omega (arith, size-x t, size-y t)) c.else-sy-sx.either
 
 not-y : (c : Joined-else-sx-sy) → let v : Ray = v c.before.before in nat_abs v.x ≤ nat_abs v.y → nat_abs v.z ≤ nat_abs v.y → ⊥
 not-y c p q =
     let t : After-magnitude-sz = c.before.before in
-    ⊎_elim (λ w. omega (arith, size-y t, size-z t, leb-false)) (λ w. omega (arith, size-x t, size-y t)) c.if-sx-sy.branch
+    ⊎_elim (λ w. omega (arith, size-y t, size-z t, leb-false)) (λ w. omega (arith, size-x t, size-y t)) c.else-sx-sy.either
 
 -- the two rows of each axis, by the test of its sign
 row-x : (c : Then-sz-sx) (b : Bool) → let v : Ray = v c.before.before in lt_z (pos 0) (to_z w64 (of_z w64 v.x)) ≡ b → cond b 0 1 ≡ face_of v
