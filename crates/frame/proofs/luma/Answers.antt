@@ -3,13 +3,12 @@ use mathlib.Core.Path.{◌≡◌, ap}
 use Prim.Native.Nat.{◌*◌, ◌-◌}
 use native.Mathlib.Omega.{arith}
 use lib.ListN.{take}
-use borrow.Author.Rules.{rules}
 use Rattle.cubemap.specs.Frames.{plane_samples}
 use Rattle.frame.proofs.luma.Goals as goal
 
 pub returns : goal.returns
 returns c =
     let s = c.before.before.before in
-    let end : c.luma_end-end.result-1 - 0 ≡ 2 * plane_samples s.args.size =
+    let end : c.luma_end-end.result - 0 ≡ 2 * plane_samples s.args.size =
     omega (arith, c.luma_end-end.ensures.0) in
     ap (λ n. take n s.args.bytes.now) end
