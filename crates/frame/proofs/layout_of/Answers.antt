@@ -4,5 +4,4 @@ use Rattle.frame.proofs.layout_of.Goals as goal
 
 pub returns : goal.returns
 returns c =
-    let s = c.before.before.before.before.before.before.before.before.before.before.before.before in
-    layout-whole s.args.bytes.now s.requires
+    layout-whole c.args.bytes.now c.requires

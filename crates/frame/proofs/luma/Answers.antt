@@ -8,7 +8,6 @@ use Rattle.frame.proofs.luma.Goals as goal
 
 pub returns : goal.returns
 returns c =
-    let s = c.before.before.before in
-    let end : c.luma_end-end.result - 0 ≡ 2 * plane_samples s.args.size =
+    let end : c.luma_end-end.result - 0 ≡ 2 * plane_samples c.args.size =
     omega (arith, c.luma_end-end.ensures.0) in
-    ap (λ n. take n s.args.bytes.now) end
+    ap (λ n. take n c.args.bytes.now) end

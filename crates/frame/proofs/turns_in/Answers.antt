@@ -6,5 +6,4 @@ use Rattle.frame.proofs.turns_in.Goals as goal
 
 pub returns : goal.returns
 returns c =
-    let s = c.before.before in
-    c.wide.ensures.0 ∙ sym (turns-byte s.args.layout s.args.slot (search rules))
+    c.wide.ensures.0 ∙ sym (turns-byte c.args.layout c.args.slot (search rules))
