@@ -17,7 +17,7 @@ use cubemap::{Layout, Place};
 // ---- the index of a place
 
 // The base and the two strides of a face: its sample at column m and row n has the index
-// base + m·column + typeof.n.row.
+// base + m·column + n·row.
 #[derive(Clone, Copy)]
 pub struct Strides {
     pub base: i64,

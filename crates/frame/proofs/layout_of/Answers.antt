@@ -1,5 +1,4 @@
 -- `layout_of` meets its contract: the twelve bytes, one after the other.
-use borrow.Author.Rules.{rules}
 use Rattle.cubemap.proofs.Layouts.{layout-whole}
 use Rattle.frame.proofs.layout_of.Goals as goal
 

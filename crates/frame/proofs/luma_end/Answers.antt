@@ -1,7 +1,6 @@
 -- `luma_end` meets its contract: twelve bytes for each square of the size.
 use native.Mathlib.Nat.{mul-le-mul}
 use native.Mathlib.Omega.{arith}
-use borrow.Author.Rules.{rules}
 use Rattle.frame.proofs.luma_end.Goals as goal
 
 pub returns : goal.returns

@@ -1,0 +1,97 @@
+-- `strides_in_slot` meets its contract: the four ways that a slot is turned, and no number beyond the slot's last index.
+use mathlib.Core.Path.{◌≡◌, refl, sym, subst}
+use Prim.Native.Nat.{ℕ, ◌+◌, ◌*◌, ◌-◌, ◌/◌, ◌≤◌, ◌<◌}
+use native.Mathlib.Nat.{mul-le-mul}
+use native.Mathlib.Omega.{arith}
+use lib.IntN.{ℤ, pos}
+use mir.Syntax.{w64}
+use mir.Val.{to_z}
+use Rattle.arithmetic.proofs.Held.{Held, held-nat, opposite-ok, opposite}
+use Rattle.cubemap.specs.Frames.{spot, quarter_turns, index_in_slot}
+use Rattle.strides.specs.FaceStrides.{StridesTo}
+use Rattle.strides.proofs.StrideIndices.{strides, same-strides, corner, last-below, strides-0, strides-1, strides-2, strides-3}
+use Rattle.strides.proofs.strides_in_slot.Goals as goal
+
+module _ {A slot turns : ℕ} (r : (1 ≤ A) × (A ≤ 512) × (slot < 6) × (turns < 4)) where
+  -- no number that is computed exceeds the slot's last index
+  last : corner A slot r.0 r.1 r.2 + (A - 1) * (3 * A) + (A - 1) < 1572864
+  last = last-below A slot r.0 r.1 r.2
+
+  width : Held (3 * A) (pos (3 * A)) 1536
+  width = held-nat (omega (arith, r.1)) tt
+
+  read : (n : ℕ) → n < 1572864 → to_z w64 n ≡ pos n
+  read n h = (held-nat {n = n} {B = 1572864} (omega arith) tt).is
+
+  -- the slot is turned k times, and the strides are as they are read
+  turned : {b d e x y z : ℤ} (k : ℕ) → turns ≡ k → b ≡ x → d ≡ y → e ≡ z
+      → StridesTo A (strides x y z) (λ m n. index_in_slot A slot (quarter_turns A k (spot m n)))
+      → StridesTo A (strides b d e) (λ m n. index_in_slot A slot (quarter_turns A turns (spot m n)))
+  turned {b} {d} {e} k t p q r s =
+      subst (λ k. StridesTo A (strides b d e) (λ m n. index_in_slot A slot (quarter_turns A k (spot m n)))) (sym t)
+      (same-strides p q r s)
+
+pub returns-in-0 : goal.returns-in-0
+returns-in-0 c = turned c.requires 0 (omega (arith, c.in-0)) (read c.requires _ (omega (arith, last c.requires))) refl (width c.requires).is
+    (strides-0 _ _ c.requires.0 c.requires.1 c.requires.2)
+
+pub returns-in-1 : goal.returns-in-1
+returns-in-1 c = turned c.requires 1 (omega (arith, c.in-1)) (read c.requires _ (omega (arith, last c.requires))) (width c.requires).is refl
+    (strides-1 _ _ c.requires.0 c.requires.1 c.requires.2)
+
+pub returns-in-2 : goal.returns-in-2
+returns-in-2 c = turned c.requires 2 (omega (arith, c.in-2)) (read c.requires _ (last c.requires)) refl (opposite (width c.requires) tt).is
+    (strides-2 _ _ c.requires.0 c.requires.1 c.requires.2)
+
+pub returns-in_default : goal.returns-in_default
+returns-in_default c =
+    turned c.requires 3 (omega arith) (read c.requires _ (omega (arith, last c.requires))) (opposite (width c.requires) tt).is refl
+    (strides-3 _ _ c.requires.0 c.requires.1 c.requires.2)
+
+pub overflow_mul-corner : goal.overflow_mul-corner
+overflow_mul-corner c = omega (arith, mul-le-mul {n₁ = c.args.slot / 3} {n₂ = 1} {m₂ = 512} (omega arith) c.requires.1)
+
+pub overflow_mul-corner-2 : goal.overflow_mul-corner-2
+overflow_mul-corner-2 c = omega (arith, last c.requires)
+
+pub overflow_mul-corner-3 : goal.overflow_mul-corner-3
+overflow_mul-corner-3 c = omega (arith, last c.requires)
+
+pub overflow_add-corner : goal.overflow_add-corner
+overflow_add-corner c = omega (arith, last c.requires)
+
+pub overflow_cast-result : goal.overflow_cast-result
+overflow_cast-result c = record { sfits = omega (arith, last c.requires) }
+
+pub overflow_add-result : goal.overflow_add-result
+overflow_add-result c = omega (arith, last c.requires)
+
+pub overflow_cast-result-in-1 : goal.overflow_cast-result-in-1
+overflow_cast-result-in-1 c = record { sfits = omega (arith, last c.requires) }
+
+pub overflow_mul-result : goal.overflow_mul-result
+overflow_mul-result c = omega (arith, last c.requires)
+
+pub overflow_add-result-in-2 : goal.overflow_add-result-in-2
+overflow_add-result-in-2 c = omega (arith, last c.requires)
+
+pub overflow_add-result-in-2-2 : goal.overflow_add-result-in-2-2
+overflow_add-result-in-2-2 c = omega (arith, last c.requires)
+
+pub overflow_cast-result-in-2 : goal.overflow_cast-result-in-2
+overflow_cast-result-in-2 c = record { sfits = omega (arith, last c.requires) }
+
+pub overflow_sub-result-in-2-2 : goal.overflow_sub-result-in-2-2
+overflow_sub-result-in-2-2 c = opposite-ok (width c.requires) tt
+
+pub overflow_mul-result-in_default : goal.overflow_mul-result-in_default
+overflow_mul-result-in_default c = omega (arith, last c.requires)
+
+pub overflow_add-result-in_default : goal.overflow_add-result-in_default
+overflow_add-result-in_default c = omega (arith, last c.requires)
+
+pub overflow_cast-result-in_default : goal.overflow_cast-result-in_default
+overflow_cast-result-in_default c = record { sfits = omega (arith, last c.requires) }
+
+pub overflow_sub-result-in_default : goal.overflow_sub-result-in_default
+overflow_sub-result-in_default c = opposite-ok (width c.requires) tt
