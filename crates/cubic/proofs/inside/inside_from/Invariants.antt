@@ -1,0 +1,19 @@
+-- `inside_from` meets its contract: after each position the values up to it are stored, and every other byte is as it
+-- was.
+use mathlib.Core.Path.{◌≡◌, subst}
+use Prim.Native.Nat.{ℕ, ◌-◌}
+use native.Mathlib.Omega.{arith}
+use lib.ListN.{length, get_or}
+use borrow.Author.Rules.{rules}
+use Rattle.cubic.specs.InsideTaps.{first_index, StoredInside}
+use Rattle.cubic.proofs.Storing.{stored-length}
+use Rattle.cubic.proofs.CubicValues.{inside-none, inside-next}
+use Rattle.cubic.proofs.InsideTaps.{has_first}
+use Rattle.cubic.proofs.inside.inside_from.Given as goal
+
+abbrev pub invariant-loop-j : goal.invariant-loop-j
+invariant-loop-j l =
+    StoredInside l.size l.depth l.plane l.on l.columns l.rows l.from l.j l.initial.target l.target
+
+abbrev pub decreases-loop-j : goal.decreases-loop-j
+decreases-loop-j l = length l.columns - l.j

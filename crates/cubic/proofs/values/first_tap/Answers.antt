@@ -1,0 +1,24 @@
+-- `first_tap` meets its contract: the quotient is one more than T divided by 64 and rounded down.
+use mathlib.Core.Path.{sym, ◌∙◌}
+use Prim.Native.Nat.{◌+◌, ◌/◌}
+use native.Mathlib.Omega.{arith}
+use lib.IntN.{pos}
+use borrow.Author.Rules.{rules}
+use Rattle.arithmetic.proofs.Narrow.{Narrow, read_small, narrow-nat, sub-ok, sub}
+use Rattle.cubic.proofs.PositionTables.{tap-by-quotient}
+use Rattle.cubic.proofs.values.first_tap.Goals.{Start}
+use Rattle.cubic.proofs.values.first_tap.Goals as goal
+
+quotient : (c : Start) → Narrow ((c.args.n + 32) / 64) (pos ((c.args.n + 32) / 64)) 513
+quotient c = narrow-nat (omega (arith, c.requires)) tt
+
+two : Narrow 2 (pos 2) 2
+two = narrow-nat (omega arith) tt
+
+pub returns : goal.returns
+returns c =
+    let read = sub (quotient c) two tt in
+    (read.is ∙ sym (tap-by-quotient c.args.n), read_small read)
+
+pub overflow_sub-result : goal.overflow_sub-result
+overflow_sub-result c = sub-ok (quotient c) two tt
