@@ -89,8 +89,8 @@ fn add_by_strides(
     row: u64,
     squares: &mut [u32; 512],
 )
-    requires scored_row { ScoredRow size first_row.now × ScoredFace size second.now second_strides }
-    requires row_lt_size { (row < size) × Room size squares.old }
+    requires scored { ScoredRow size first_row.now × ScoredFace size second.now second_strides }
+    requires within { (row < size) × Room size squares.old }
     ensures { Added size (row_squares first_row.now second.now second_strides row)
         squares.old squares.new }
 {
@@ -113,8 +113,8 @@ fn add_row(
     row: u64,
     squares: &mut [u32; 512],
 )
-    requires scored_row { ScoredRow size first_row.now × ScoredFace size second.now second_strides }
-    requires row_lt_size { (row < size) × Room size squares.old }
+    requires scored { ScoredRow size first_row.now × ScoredFace size second.now second_strides }
+    requires within { (row < size) × Room size squares.old }
     ensures { Added size (row_squares first_row.now second.now second_strides row)
         squares.old squares.new }
 {
@@ -153,9 +153,9 @@ fn add_pairs(
     mirror: u64,
     squares: &mut [u32; 512],
 )
-    requires scored_row { ScoredRow size first_row.now × ScoredRow size first_mirror.now
+    requires scored { ScoredRow size first_row.now × ScoredRow size first_mirror.now
         × ScoredFace size second.now second_strides }
-    requires row_lt_size { (row < size) × (mirror < size) × Room size squares.old }
+    requires within { (row < size) × (mirror < size) × Room size squares.old }
     ensures { Added size (λ m. row_squares first_row.now second.now second_strides row m
         + row_squares first_mirror.now second.now second_strides mirror m)
         squares.old squares.new }
@@ -183,9 +183,9 @@ fn add_both(
     mirror: u64,
     squares: &mut [u32; 512],
 )
-    requires scored_row { ScoredRow size first_row.now × ScoredRow size first_mirror.now
+    requires scored { ScoredRow size first_row.now × ScoredRow size first_mirror.now
         × ScoredFace size second.now second_strides }
-    requires row_lt_size { (row < size) × (mirror < size) × SumsTo size 201228300 squares.old }
+    requires within { (row < size) × (mirror < size) × SumsTo size 201228300 squares.old }
     ensures { Added size (both_squares first_row.now first_mirror.now
         second.now second_strides row mirror) squares.old squares.new }
 {
@@ -221,9 +221,9 @@ fn add_face(
     mirror: u64,
     squares: &mut [u32; 512],
 )
-    requires scored_face { ScoredFace size first.now first_strides × (first_strides.column ≡ pos 1)
+    requires scored { ScoredFace size first.now first_strides × (first_strides.column ≡ pos 1)
         × ScoredFace size second.now second_strides }
-    requires row_lt_size { (row < size) × (mirror < size) × SumsTo size 201228300 squares.old }
+    requires within { (row < size) × (mirror < size) × SumsTo size 201228300 squares.old }
     ensures { Added size
         (λ m. both_terms (λ n. face_squares first.now first_strides second.now second_strides n m)
         row mirror) squares.old squares.new }
@@ -251,9 +251,9 @@ pub fn squares_of(
     row: u64,
     mirror: u64,
 ) -> [u32; 512]
-    requires scored_plane { ScoredPlane size first.now first_strides.now × ScoredPlane size second.now second_strides.now
+    requires scored { ScoredPlane size first.now first_strides.now × ScoredPlane size second.now second_strides.now
         × RowsAhead first_strides.now }
-    requires row_lt_size { (row < size) × (mirror < size) }
+    requires within { (row < size) × (mirror < size) }
     ensures { Squares size (λ m. both_terms (λ n. faces_squares first.now first_strides.now
         second.now second_strides.now n m) row mirror) result }
 {
