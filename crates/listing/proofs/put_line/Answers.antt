@@ -1,0 +1,48 @@
+-- `put_line` meets its contract: the record's number, and then what was found.
+use mathlib.Core.Path.{◌≡◌, sym, ◌∙◌, ap}
+use mathlib.Core.List.{◌++◌}
+use Prim.Native.Nat.{ℕ}
+use lib.IntN.{pos}
+use Rattle.cubemap.specs.declared.Located.{Located}
+use Rattle.cubemap.specs.declared.LookedUp.{LookedUp}
+use Rattle.cubemap.specs.declared.Refusal.{Refusal}
+use Rattle.cubemap.specs.Listing.{decimal, spaced, line}
+use Rattle.cubemap.specs.Outcomes.{look_up_values, refusal, looked_up_means}
+use Rattle.cubemap.proofs.Listings.{refused_text, outcome_text, line-number, line-accepted, line_refused}
+use Rattle.listing.proofs.Texts.{put_then, put_is, room-is, room-first, room-then}
+use Rattle.listing.proofs.put_line.Goals as goal
+
+-- the line, by the case that the match found
+located-line : (k : ℕ) {found : LookedUp} {p : Located} → found ≡ LookedUp.At p
+    → line k (looked_up_means found) ≡ decimal (pos k) ++ spaced (look_up_values p)
+located-line k {p = p} e = ap (λ r. line k (looked_up_means r)) e ∙ line-accepted k (look_up_values p)
+
+refused-line : (k : ℕ) {found : LookedUp} {q : Refusal} → found ≡ LookedUp.Refused q
+    → line k (looked_up_means found) ≡ decimal (pos k) ++ refused_text (refusal q).number
+refused-line k {q = q} e = ap (λ r. line k (looked_up_means r)) e ∙ line_refused k q
+
+pub put_decimal-number-requires : goal.put_decimal-number-requires
+put_decimal-number-requires c =
+    let r = looked_up_means c.args.found in
+    room-first _ _ (decimal (pos c.args.k)) (outcome_text r) (room-is _ _ (line-number c.args.k r) c.requires)
+
+pub put_located-requires : goal.put_located-requires
+put_located-requires c =
+    room-then (decimal (pos c.args.k)) (spaced (look_up_values c.in-At.p)) c.put_decimal-number.ensures
+    (room-is _ _ (located-line c.args.k c.in-At.is) c.requires)
+
+pub put_refused-requires : goal.put_refused-requires
+put_refused-requires c =
+    room-then (decimal (pos c.args.k)) (refused_text (refusal c.in-Refused.refused).number) c.put_decimal-number.ensures
+    (room-is _ _ (refused-line c.args.k c.in-Refused.is) c.requires)
+
+pub returns-in-At : goal.returns-in-At
+returns-in-At c =
+    put_is (sym (located-line c.args.k c.in-At.is))
+    (put_then (decimal (pos c.args.k)) (spaced (look_up_values c.in-At.p)) c.put_decimal-number.ensures c.put_located.ensures)
+
+pub returns-in-Refused : goal.returns-in-Refused
+returns-in-Refused c =
+    put_is (sym (refused-line c.args.k c.in-Refused.is))
+    (put_then (decimal (pos c.args.k)) (refused_text (refusal c.in-Refused.refused).number) c.put_decimal-number.ensures
+    c.put_refused.ensures)
