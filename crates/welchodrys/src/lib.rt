@@ -1,4 +1,5 @@
-// The calls that C makes: numbers and lent buffers go in, a code and bytes come out. Each is thin over the function that does the work.
+// The five calls: numbers and lent buffers go in, a code and bytes come out. Each is thin over the function that does the work. The crate
+// welchodrys_c exports them to C.
 #![tactic(auto)]
 
 ghost use Rattle.cubemap.specs.PlaceToRay.{ray};
@@ -10,8 +11,7 @@ ghost use Rattle.cubemap.specs.Rotations.{rotation};
 use cubemap::{Compared, Converted, Folded, LookedUp, Ray, Rotation, Scored, Shape};
 
 // Convert a frame through a turn: the target's bytes.
-#[unsafe(no_mangle)]
-pub extern "C" fn welchodrys_convert(
+pub fn welchodrys_convert(
     source_size: u64,
     target_size: u64,
     depth: u64,
@@ -62,8 +62,7 @@ pub extern "C" fn welchodrys_convert(
 }
 
 // Score two frames: the weighted error sum, then the sum of the weights.
-#[unsafe(no_mangle)]
-pub extern "C" fn welchodrys_score(
+pub fn welchodrys_score(
     size: u64,
     depth: u64,
     format: u64,
@@ -94,8 +93,7 @@ pub extern "C" fn welchodrys_score(
 }
 
 // Fold a first and a later turn: four numbers.
-#[unsafe(no_mangle)]
-pub extern "C" fn welchodrys_fold(
+pub fn welchodrys_fold(
     first0: i64,
     first1: i64,
     first2: i64,
@@ -132,8 +130,7 @@ pub extern "C" fn welchodrys_fold(
 }
 
 // Are two turns equal? One number, 1 or 0.
-#[unsafe(no_mangle)]
-pub extern "C" fn welchodrys_equal(
+pub fn welchodrys_equal(
     first0: i64,
     first1: i64,
     first2: i64,
@@ -170,15 +167,7 @@ pub extern "C" fn welchodrys_equal(
 }
 
 // Look up a ray: the face, then column and row in 64ths of a sample.
-#[unsafe(no_mangle)]
-pub extern "C" fn welchodrys_look_up(
-    size: u64,
-    format: u64,
-    x: i64,
-    y: i64,
-    z: i64,
-    answer: &mut [u8],
-) -> u64
+pub fn welchodrys_look_up(size: u64, format: u64, x: i64, y: i64, z: i64, answer: &mut [u8]) -> u64
     ensures { LookUpPromise size format (ray x y z) answer.old result answer.new }
 {
     let v = Ray { x: x, y: y, z: z };
