@@ -3,15 +3,15 @@ ghost use Rattle.std.specs.Prelude.{◌≡◌, ◌+◌, ◌*◌, ◌≤◌, leng
 
 use crate::{Case, Outcome};
 use cubemap::Rotation;
+use itoa::Buffer;
 
 // n in decimal, and a byte behind it.
 fn put_number(text: &mut [u8], at: usize, n: u64, behind: u8) -> usize
     requires { at + 21 ≤ length text.old }
     ensures { result ≤ at + 21 }
 {
-    let mut digits = [0u8; 20];
-    let count = io::decimal(n, &mut digits);
-    let end = listing::put_bytes(text, at, &digits[..count]);
+    let mut digits = Buffer::new();
+    let end = listing::put_bytes(text, at, digits.format(n).as_bytes());
     text[end] = behind;
     end + 1
 }

@@ -21,7 +21,8 @@
 ghost use Rattle.std.specs.Prelude.{◌<◌};
 
 use cubemap::Rotation;
-use libc::STDOUT_FILENO;
+use std::io;
+use std::process::ExitCode;
 
 mod calls;
 mod cases;
@@ -67,83 +68,90 @@ struct Outcome {
     score: ScoreOutcome,
 }
 
-// ---- printing: each function says whether all was written
+// ---- printing: each function fails where not all was written
 
 // Runs a conversion that is not left out, and prints its line.
-fn print_case(case: Case, source: &mut [u8; ROOM], target: &mut [u8; ROOM]) -> bool
+fn print_case(
+    rt: &impl Print,
+    case: Case,
+    source: &mut [u8; ROOM],
+    target: &mut [u8; ROOM],
+) -> io::Result<()>
     requires { case.depth < 16 }
 {
     if cases::left_out(case) {
-        return true;
+        return Ok(());
     }
     let mut text = [0u8; LINE];
     let end = lines::put_line(&mut text, case, conversions::run(case, source, target));
-    io::write_all(STDOUT_FILENO, &text[..end])
+    rt.write_all(&text[..end])
 }
 
 // All lines of a group.
-fn print_group(group: u64, source: &mut [u8; ROOM], target: &mut [u8; ROOM]) -> bool {
+fn print_group(
+    rt: &impl Print,
+    group: u64,
+    source: &mut [u8; ROOM],
+    target: &mut [u8; ROOM],
+) -> io::Result<()> {
     let count = cases::count_in(group);
     let mut i = 0;
     while i < count {
-        if !print_case(cases::case_at(group, i), source, target) {
-            return false;
-        }
+        print_case(rt, cases::case_at(group, i), source, target)?;
         i += 1;
     }
-    true
+    Ok(())
 }
 
 // The heading of the conversions, then the groups 1 to 7.
-fn print_conversions(source: &mut [u8; ROOM], target: &mut [u8; ROOM]) -> bool {
-    let mut written = io::write_all(
-        STDOUT_FILENO,
+fn print_conversions(
+    rt: &impl Print,
+    source: &mut [u8; ROOM],
+    target: &mut [u8; ROOM],
+) -> io::Result<()> {
+    rt.write_all(
         b"source target depth formats sampler layouts turn damage number index digest samples score score-index errors weights\n",
-    );
+    )?;
     let mut group = 1;
     while group < 8 {
-        if !written {
-            return false;
-        }
-        written = print_group(group, source, target);
+        print_group(rt, group, source, target)?;
         group += 1;
     }
-    written
+    Ok(())
 }
 
 // Makes call i, and prints its line.
-fn print_call(i: u64) -> bool {
+fn print_call(rt: &impl Print, i: u64) -> io::Result<()> {
     let mut text = [0u8; LINE];
     let end = calls::put_call(&mut text, i);
-    io::write_all(STDOUT_FILENO, &text[..end])
+    rt.write_all(&text[..end])
 }
 
 // The heading of the six calls, then their lines.
-fn print_calls() -> bool {
-    let mut written = io::write_all(STDOUT_FILENO, b"call parameters number index answer\n");
+fn print_calls(rt: &impl Print) -> io::Result<()> {
+    rt.write_all(b"call parameters number index answer\n")?;
     let mut i = 0;
     while i < 6 {
-        if !written {
-            return false;
-        }
-        written = print_call(i);
+        print_call(rt, i)?;
         i += 1;
     }
-    written
+    Ok(())
 }
 
 // Both parts.
-fn print_all(source: &mut [u8; ROOM], target: &mut [u8; ROOM]) -> bool {
-    if !print_conversions(source, target) {
-        return false;
-    }
-    print_calls()
+fn print_all(rt: &impl Print, source: &mut [u8; ROOM], target: &mut [u8; ROOM]) -> io::Result<()> {
+    print_conversions(rt, source, target)?;
+    print_calls(rt)
 }
 
-fn main() {
+fn main(rt: HostRuntime) -> ExitCode {
     let mut source = [0u8; ROOM];
     let mut target = [0u8; ROOM];
-    if !print_all(&mut source, &mut target) {
-        os::fail(b"conformance: standard output");
+    match print_all(&rt, &mut source, &mut target) {
+        Ok(()) => ExitCode::SUCCESS,
+        Err(error) => {
+            let _ = eprintln!(rt; "conformance: standard output: {error}");
+            ExitCode::FAILURE
+        }
     }
 }
