@@ -33,9 +33,11 @@ loop-end-preserved g c =
     let within = c.loop-end.invariant.1 in
     let new = put_mid end (length old - end) old c.read.new.buf in
     let part : slice_range new end (end + more) ≡ take more c.read.new.buf =
-        put end (length old - end) more old c.read.new.buf within c.in-Ok.ensures.bound.0 in
+    put end (length old - end) more old c.read.new.buf within c.in-Ok.ensures.bound.0 in
     let whole : take end old ++ take more c.read.new.buf ≡ take (end + more) new =
-        ap (λ l. take end old ++ l) (sym part)
-        ∙ joined end more old new (take-put_mid_below _ _ _ _ _ (le_refl _) within) in
-    (search rules, search rules,
-     subst (Consumes _ _) whole (Consumes-trans _ _ _ _ _ c.loop-end.invariant.2 c.in-Ok.ensures.bytes.0))
+    ap (λ l. take end old ++ l) (sym part)
+    ∙ joined end more old new (take-put_mid_below _ _ _ _ _ (le_refl _) within) in (
+      search rules,
+      search rules,
+      subst (Consumes _ _) whole (Consumes-trans _ _ _ _ _ c.loop-end.invariant.2 c.in-Ok.ensures.bytes.0),
+    )
