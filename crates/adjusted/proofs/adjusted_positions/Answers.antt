@@ -11,14 +11,13 @@ use Rattle.adjusted.proofs.adjusted_positions.Goals.{After-cut_of-cut}
 use Rattle.adjusted.proofs.adjusted_positions.Goals as goal
 
 pub returns-then-end-eq0 : goal.returns-then-end-eq0
-returns-then-end-eq0 c =
-    (
-      λ t. subst
-          (λ n. Adjusted c.args.size c.args.table.now c.args.distances.now 0 n c.args.table.now)
-          (omega (arith, c.if-end-eq0.true))
-          (adjusted-none c.args.size c.args.table.now c.args.distances.now 0 c.args.table.now),
-      refl,
-    )
+returns-then-end-eq0 c = (
+  λ t. subst
+      (λ n. Adjusted c.args.size c.args.table.now c.args.distances.now 0 n c.args.table.now)
+      (omega (arith, c.if-end-eq0.true))
+      (adjusted-none c.args.size c.args.table.now c.args.distances.now 0 c.args.table.now),
+  refl,
+)
 
 pub returns-then-negative : goal.returns-then-negative
 returns-then-negative c =

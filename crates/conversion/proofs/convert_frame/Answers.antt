@@ -162,5 +162,8 @@ pub slice_bounds-convert_plane-end-2 : goal.slice_bounds-convert_plane-end-2
 slice_bounds-convert_plane-end-2 c = let u = (goal.at.slice_bounds-convert_plane-end-2 c).After-luma in omega (arith, end u, room u)
 
 pub convert_plane-requires : goal.convert_plane-requires
-convert_plane-requires a = let u = (goal.at.convert_plane-requires a).After-luma in record { source = (source_is u, target_is u); target_len = part_length 0 u.luma_end-end.result u.args.target.now (omega arith) (omega (arith, end u, room u))
-          ∙ omega (arith, end u, ap (λ by. plane_samples by.target.cube.size) u.conversion_of-c.ensures) }
+convert_plane-requires a = let u = (goal.at.convert_plane-requires a).After-luma in record {
+  source = (source_is u, target_is u);
+  target_len = part_length 0 u.luma_end-end.result u.args.target.now (omega arith) (omega (arith, end u, room u))
+      ∙ omega (arith, end u, ap (λ by. plane_samples by.target.cube.size) u.conversion_of-c.ensures);
+}

@@ -58,7 +58,7 @@ overflow_add-j c =
     omega (arith, c.loop-j-test.true, c.requires.positions.0.few)
 
 pub interior_from-j-requires-in-loop-j : goal.interior_from-j-requires-in-loop-j
-interior_from-j-requires-in-loop-j c = 
+interior_from-j-requires-in-loop-j c =
     let f = (goal.at.interior_from-j-requires-in-loop-j c).After-interior_firsts in
     let length-kept = first-length c.loop-j.invariant in
     record { face_source = face-source f; positions = (f.requires.positions.0, f.interior_firsts.ensures); from_in_bounds = (omega (arith, c.loop-j-test.true), search rules) }

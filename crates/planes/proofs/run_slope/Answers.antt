@@ -13,9 +13,8 @@ pub returns : goal.returns
 returns c = c.rotate.ensures ∙ ap (rotated c.args.t) c.slot_ray.ensures
 
 pub rotate-requires : goal.rotate-requires
-rotate-requires c =
-    (
-      c.requires.0,
-      subst (λ r. T (ray_in_range r)) (sym c.slot_ray.ensures)
-          (slot-in-range c.args.face c.args.turns (pos 0) (pos 1) (pos 0) (omega arith) (omega arith) (omega arith)),
-    )
+rotate-requires c = (
+  c.requires.0,
+  subst (λ r. T (ray_in_range r)) (sym c.slot_ray.ensures)
+      (slot-in-range c.args.face c.args.turns (pos 0) (pos 1) (pos 0) (omega arith) (omega arith) (omega arith)),
+)

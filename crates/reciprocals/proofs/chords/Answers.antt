@@ -43,4 +43,3 @@ quotient-first-requires-then-j-to c =
 
 pub eight-requires-then-j-to : goal.eight-requires-then-j-to
 eight-requires-then-j-to c = let t = (goal.at.eight-requires-then-j-to c).Then-j-to in record { first_bound = (c.quotient-near.ensures, c.quotient-first-then-j-to.ensures, omega (arith, within t)); distances = (distances-within (tail t) (tail t + 9) t.requires.2 (begun t) (within t), t.loop-j.invariant.whole) }
-

@@ -142,8 +142,12 @@ slice_bounds-sample_table-count c = omega (arith, c.stretch_end-to.ensures.0)
 
 pub slice_bounds-sample_table-end-in-loop-from : goal.slice_bounds-sample_table-end-in-loop-from
 slice_bounds-sample_table-end-in-loop-from c =
-    omega (arith, kept 2 c.loop-from.invariant.0 (omega (arith, c.requires.row_ready.1)), c.requires.row_ready.1,
-    c.stretch_end-to.ensures.1)
+    omega (
+      arith,
+      kept 2 c.loop-from.invariant.0 (omega (arith, c.requires.row_ready.1)),
+      c.requires.row_ready.1,
+      c.stretch_end-to.ensures.1,
+    )
 
 pub sample_table-requires : goal.sample_table-requires
 sample_table-requires c =

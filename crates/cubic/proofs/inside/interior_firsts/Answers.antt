@@ -34,9 +34,12 @@ first_indices-requires c = let t = (goal.at.first_indices-requires c).Then-runs_
     record { face_leads = (t.requires.face_leads.0, contiguous t, t.requires.face_leads.1, t.requires.face_leads.2); firsts_len = t.requires.firsts_len }
 
 pub first_indices-requires-else-runs_along : goal.first_indices-requires-else-runs_along
-first_indices-requires-else-runs_along c = let is = sym c.exchanged.ensures in record { face_leads = (
-        subst (FaceLeads c.args.size) is (exchanged-leads c.requires.face_leads.0),
-        subst Contiguous is (c.requires.face_leads.0.either (not-contiguous (goal.at.first_indices-requires-else-runs_along c).Else-runs_along)),
-        c.requires.face_leads.1,
-        positions-exchanged c.requires.face_leads.2,
-      ); firsts_len = c.requires.firsts_len }
+first_indices-requires-else-runs_along c = let is = sym c.exchanged.ensures in record {
+  face_leads = (
+    subst (FaceLeads c.args.size) is (exchanged-leads c.requires.face_leads.0),
+    subst Contiguous is (c.requires.face_leads.0.either (not-contiguous (goal.at.first_indices-requires-else-runs_along c).Else-runs_along)),
+    c.requires.face_leads.1,
+    positions-exchanged c.requires.face_leads.2,
+  );
+  firsts_len = c.requires.firsts_len;
+}

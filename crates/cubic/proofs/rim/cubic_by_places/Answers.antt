@@ -58,9 +58,12 @@ overflow_cast-y c = widen_ok c.first_tap-y.result c.first_tap-y.ensures.1 tt
 pub sum_by_places-requires : goal.sum_by_places-requires
 sum_by_places-requires c = let p = c.requires.source in
     let near : (z : ℤ) → nat_abs z ≤ 515 → nat_abs (to_z w64 (of_z w64 (to_z w32 (of_z w32 z)))) ≤ 65536 =
-    λ z h. subst (λ z. nat_abs z ≤ 65536) (sym (widen z h tt)) (omega arith) in record { strided_plane = (p.0.strided, p.0.shallow, p.1); column_bound = (
+    λ z h. subst (λ z. nat_abs z ≤ 65536) (sym (widen z h tt)) (omega arith) in record {
+      strided_plane = (p.0.strided, p.0.shallow, p.1);
+      column_bound = (
         near c.first_tap-x.result c.first_tap-x.ensures.1,
         near c.first_tap-y.result c.first_tap-y.ensures.1,
         c.weights_at-u.ensures.1,
         c.weights_at-w.ensures.1,
-      ) }
+      );
+    }

@@ -23,6 +23,6 @@ pub returns : goal.returns
 returns c =
     let a = c.args in
     elim c.if-column-size.branch [
-      then-column-size w ↦ (column a.size a.position _ (λ e. omega arith) (λ e. omega arith), omega arith)
-    | else-column-size w ↦ (column a.size a.position _ (λ e. omega arith) (λ e. omega arith), omega arith)
+      | then-column-size w ↦ (column a.size a.position _ (λ e. omega arith) (λ e. omega arith), omega arith)
+      | else-column-size w ↦ (column a.size a.position _ (λ e. omega arith) (λ e. omega arith), omega arith)
     ]

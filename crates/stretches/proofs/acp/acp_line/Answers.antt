@@ -17,18 +17,20 @@ found-numbers : {l m : Line} {coordinates : List ℤ} {table : List ℕ} → l �
 found-numbers {coordinates = coordinates} {table} e = subst (λ l. Numbers l coordinates table) e
 
 pub line_numbers-requires : goal.line_numbers-requires
-line_numbers-requires c =
-    (
-      subst (λ l. Ahead l c.args.coordinates.now) (sym c.sum_of.ensures) (sum-ahead c.requires.stretch.0),
-      omega (arith, c.requires.coordinates_in_bounds.2),
-    )
+line_numbers-requires c = (
+  subst (λ l. Ahead l c.args.coordinates.now) (sym c.sum_of.ensures) (sum-ahead c.requires.stretch.0),
+  omega (arith, c.requires.coordinates_in_bounds.2),
+)
 
 pub acp_parts-requires : goal.acp_parts-requires
 acp_parts-requires c = let p = c.requires.stretch in
-    let q = c.requires.coordinates_in_bounds in record { stretch = (
+    let q = c.requires.coordinates_in_bounds in record {
+      stretch = (
         p.0,
         p.1,
         p.2,
         p.3 (c.if-not-good.false),
         found-numbers c.sum_of.ensures c.line_numbers.ensures.0,
-      ); coordinates_in_bounds = (q.0, q.1, c.line_numbers.ensures.1 ∙ q.2) }
+      );
+      coordinates_in_bounds = (q.0, q.1, c.line_numbers.ensures.1 ∙ q.2);
+    }

@@ -24,13 +24,16 @@ returns-then-adjusted_positions c =
 
 pub adjusted_positions-requires : goal.adjusted_positions-requires
 adjusted_positions-requires c = let p = c.requires.stretch in
-    let l = c.requires.distances_len in record { size_bound = (
+    let l = c.requires.distances_len in record {
+      size_bound = (
         p.0.size-most,
         omega (arith, p.2),
         omega (arith, l.2, p.0.few),
         l.0 ∙ sym l.2,
         l.1 ∙ sym l.2,
-      ); distances = subst
+      );
+      distances = subst
           (λ n. Distances c.args.distances.now 0 n × Sums c.args.table.now c.args.distances.now 0 n
           × Reciprocals c.args.shift c.args.distances.now c.args.reciprocals.now 0 n)
-          (sym l.2) (distances-are p.0 p.1, sums-are p.0 p.1 p.4, p.3) }
+          (sym l.2) (distances-are p.0 p.1, sums-are p.0 p.1 p.4, p.3);
+    }

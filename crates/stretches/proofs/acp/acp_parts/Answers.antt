@@ -115,17 +115,20 @@ pub acp_part-requires : goal.acp_part-requires
 acp_part-requires c = let e = (goal.at.acp_part-requires c).After-part_end-next in
     let g = e.args in
     let p = e.requires.stretch in
-    let many = sym (mid_len (j e) (next e) g.coordinates.now (inside e)) in record { stretch = (
+    let many = sym (mid_len (j e) (next e) g.coordinates.now (inside e)) in record {
+      stretch = (
         stretch-part g.coordinates.now (j e) (next e) (inside e) p.0,
         numbers-part g.coordinates.now (j e) (next e) (inside e) g.distances.now (λ i _ l. p.1.entry i l),
         p.2,
         reciprocals-part g.coordinates.now (j e) (next e) (inside e) p.3,
         numbers-part g.coordinates.now (j e) (next e) (inside e) e.loop-j.table (f e).left,
-      ); distances_len = (
+      );
+      distances_len = (
         mid_len (j e) (next e) g.distances.now (in-distances e) ∙ many,
         mid_len (j e) (next e) g.reciprocals.now (in-reciprocals e) ∙ many,
         mid_len (j e) (next e) e.loop-j.table (in_table e) ∙ many,
-      ) }
+      );
+    }
 
 pub loop-j-smaller : goal.loop-j-smaller
 loop-j-smaller c =

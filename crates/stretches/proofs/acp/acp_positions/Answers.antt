@@ -16,8 +16,11 @@ reciprocals_of-scale-requires c =
 
 pub acp_lines-requires : goal.acp_lines-requires
 acp_lines-requires c = let p = c.requires.stretch in
-    let g = c.reciprocals_of-scale.ensures in record { stretch = (p.0, p.1, c.line_numbers.ensures.0, g.0, g.1); coordinates_in_bounds = (
+    let g = c.reciprocals_of-scale.ensures in record {
+      stretch = (p.0, p.1, c.line_numbers.ensures.0, g.0, g.1);
+      coordinates_in_bounds = (
         omega (arith, p.0.few, c.line_numbers.ensures.1, c.requires.distances_len.0),
         omega (arith, p.0.few, g.2),
         c.requires.distances_len.2,
-      ) }
+      );
+    }
