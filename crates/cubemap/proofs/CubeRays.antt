@@ -8,7 +8,7 @@ use Rattle.cubemap.specs.declared.Format.{Format}
 use Rattle.cubemap.specs.declared.Place.{Place}
 use Rattle.cubemap.specs.declared.Ray.{Ray}
 use Rattle.cubemap.specs.Frames.{place, IsPlace}
-use Rattle.cubemap.specs.PlaceToRay.{ray, scale, face_coordinate, table3, ray_of}
+use Rattle.cubemap.specs.PlaceToRay.{scale, face_coordinate, table3, ray_of}
 use Rattle.cubemap.proofs.FaceCoordinates.{coordinates}
 use Rattle.cubemap.proofs.Rotations.{ray-eq}
 

@@ -4,10 +4,9 @@ use Prim.Native.Nat.{ℕ, ◌+◌, ◌-◌, ◌/◌, ◌%◌, ◌<◌}
 use native.Mathlib.Nat.{le_refl}
 use native.Mathlib.Omega.{arith}
 use lib.ListN.{get_or}
-use borrow.Author.Rules.{rules}
 use Rattle.adjusted.proofs.Nearly.{factors-fit}
 use Rattle.adjusted.proofs.Columns.{Column, column-of, told-above}
-use Rattle.adjusted.proofs.Told.{Entry, Reached, reached-none, reached-next, reached-end}
+use Rattle.adjusted.proofs.Told.{Entry, reached-none, reached-next, reached-end}
 use Rattle.adjusted.proofs.above.Goals.{After-part}
 use Rattle.adjusted.proofs.above.Goals as goal
 

@@ -1,13 +1,6 @@
 -- `above` meets its contract: column by column, each entry is told by its bracket where the flags say so.
-use mathlib.Core.Path.{◌≡◌, refl, ◌∙◌}
-use Prim.Native.Nat.{ℕ, ◌+◌, ◌-◌, ◌/◌, ◌%◌, ◌<◌}
-use native.Mathlib.Nat.{le_refl}
-use native.Mathlib.Omega.{arith}
-use lib.ListN.{get_or}
-use borrow.Author.Rules.{rules}
-use Rattle.adjusted.proofs.Nearly.{factors-fit}
-use Rattle.adjusted.proofs.Columns.{Column, column-of, told-above}
-use Rattle.adjusted.proofs.Told.{Entry, Reached, reached-none, reached-next, reached-end}
+use Prim.Native.Nat.{◌-◌}
+use Rattle.adjusted.proofs.Told.{Reached}
 use Rattle.adjusted.proofs.above.Given as goal
 
 abbrev pub invariant-loop-j : goal.invariant-loop-j

@@ -4,7 +4,6 @@ use Prim.Native.Nat.{ℕ}
 use native.Mathlib.Nat.{le_refl}
 use native.Mathlib.Omega.{arith}
 use lib.ListN.{length}
-use borrow.Author.Rules.{rules}
 use Rattle.adjusted.specs.Adjusted.{AdjustedStretch, Adjusted}
 use Rattle.adjusted.proofs.Told.{adjusted-none, first_part, second-part, told-both}
 use Rattle.adjusted.proofs.adjusted_positions.Goals.{After-cut_of-cut}

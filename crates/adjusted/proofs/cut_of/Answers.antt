@@ -1,8 +1,6 @@
 -- `cut_of` meets its contract: whatever the signs are, both ends stay in the stretch.
-use Prim.Native.Nat.{ℕ, ◌-◌, ◌≤◌, ◌<◌}
 use native.Mathlib.Omega.{arith}
 use borrow.Author.Rules.{rules}
-use Rattle.adjusted.proofs.cut_of.Invariants.{Within}
 use Rattle.adjusted.proofs.cut_of.Goals as goal
 
 pub loop-low-init : goal.loop-low-init

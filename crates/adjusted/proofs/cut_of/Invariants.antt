@@ -1,7 +1,5 @@
 -- `cut_of` meets its contract: whatever the signs are, both ends stay in the stretch.
 use Prim.Native.Nat.{ℕ, ◌-◌, ◌≤◌, ◌<◌}
-use native.Mathlib.Omega.{arith}
-use borrow.Author.Rules.{rules}
 use Rattle.adjusted.proofs.cut_of.Given as goal
 
 pub record Within (end low high : ℕ) : Type 0 where

@@ -3,7 +3,6 @@ use mathlib.Core.Path.{◌≡◌, sym, subst}
 use Prim.Native.Nat.{ℕ, ◌+◌, ◌*◌, ◌-◌, ◌/◌, ◌%◌, ◌^◌, ◌≤◌, ◌<◌}
 use native.Mathlib.Nat.{mod-eq_of_lt, mul-le-mul}
 use native.Mathlib.Omega.{arith}
-use borrow.Author.Rules.{rules}
 use Rattle.reciprocals.specs.Reciprocals.{Reciprocal}
 use Rattle.adjusted.proofs.Nearly.{RatioNear, bend-part, ratio-near, part-near}
 use Rattle.adjusted.proofs.part.Goals.{Start}

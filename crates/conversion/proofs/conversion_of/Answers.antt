@@ -1,5 +1,4 @@
 -- `conversion_of` meets its contract: the codes become what they mean.
-use borrow.Author.Rules.{rules}
 use Rattle.conversion.proofs.conversion_of.Goals as goal
 
 pub returns : goal.returns

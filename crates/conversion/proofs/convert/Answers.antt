@@ -1,6 +1,5 @@
 -- `convert` meets its contract: the questions decide, and nothing is written where one of them ends the call.
 use mathlib.Core.Path.{◌∙◌, ap}
-use borrow.Author.Rules.{rules}
 use Rattle.cubemap.specs.Interface.{accepted}
 use Rattle.cubemap.specs.Checks.{convert_settings}
 use Rattle.cubemap.specs.Outcomes.{outcome}

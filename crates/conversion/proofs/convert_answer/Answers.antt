@@ -2,7 +2,6 @@
 use mathlib.Core.Path.{refl}
 use mathlib.Core.List.{List}
 use lib.ListN.{length}
-use borrow.Author.Rules.{rules}
 use Rattle.cubemap.specs.Checks.{ConvertSettings, convert_settings, target_shape, Check}
 use Rattle.cubemap.specs.Checks.{size_checks, setting_checks, length_checks, before_samples, convert_checks}
 use Rattle.cubemap.specs.Outcomes.{convert_answer}

@@ -1,6 +1,5 @@
 -- `settings_answer` meets its contract: it asks the checks in their order.
 use mathlib.Core.List.{List, ◌++◌}
-use borrow.Author.Rules.{rules}
 use Rattle.cubemap.specs.Checks.{ConvertSettings, convert_settings, Check, size_checks, setting_checks}
 use Rattle.checks.proofs.Chain.{start, next}
 use Rattle.conversion.proofs.settings_answer.Goals.{After-size_ok}

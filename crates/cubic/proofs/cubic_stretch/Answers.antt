@@ -1,16 +1,9 @@
 -- `cubic_stretch` meets its contract: at each turn the values up to a position at the rim are stored.
-use Prim.Native.Nat.{◌-◌}
 use native.Mathlib.Omega.{arith}
-use lib.ListN.{length}
 use borrow.Author.Rules.{rules}
-use Rattle.cubemap.specs.declared.Sampler.{Sampler}
-use Rattle.cubemap.specs.RayToPlace.{located}
-use Rattle.cubemap.specs.Samplers.{sample_from}
-use Rattle.strides.specs.FaceStrides.{sample_by}
 use Rattle.cubic.specs.Sources.{FaceSource}
-use Rattle.cubic.specs.PositionTables.{position_in}
 use Rattle.cubic.proofs.Sources.{source_of}
-use Rattle.cubic.proofs.Storing.{FirstStored, first-none, first-length, first_next, first_run, first-all}
+use Rattle.cubic.proofs.Storing.{first-none, first-length, first_next, first_run, first-all}
 use Rattle.cubic.proofs.CubicValues.{stored-on-face}
 use Rattle.cubic.proofs.cubic_stretch.Goals.{After-interior_firsts}
 use Rattle.cubic.proofs.cubic_stretch.Goals as goal

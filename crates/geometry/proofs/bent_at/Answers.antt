@@ -1,6 +1,5 @@
 -- `bent_at` meets its contract: c is at most N, so nothing goes below zero and nothing overflows.
 use native.Mathlib.Omega.{arith}
-use borrow.Author.Rules.{rules}
 use Rattle.cubemap.proofs.Curves.{bent-most}
 use Rattle.geometry.proofs.bent_at.Goals as goal
 

@@ -2,8 +2,7 @@
 use Prim.Native.Nat.{ℕ, ◌+◌, ◌*◌, ◌-◌, ◌/◌, ◌≤◌}
 use native.Mathlib.Nat.{mul-le-mul}
 use native.Mathlib.Omega.{arith}
-use borrow.Author.Rules.{rules}
-use Rattle.cubemap.proofs.Curves.{bent-most, Bracket, bracket-end}
+use Rattle.cubemap.proofs.Curves.{bent-most, bracket-end}
 use Rattle.geometry.proofs.curve.Goals as goal
 
 pub loop-low-init : goal.loop-low-init

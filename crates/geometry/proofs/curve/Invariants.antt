@@ -1,9 +1,6 @@
 -- `curve` meets its contract: bisection keeps a bracket around the curve.
-use Prim.Native.Nat.{ℕ, ◌+◌, ◌*◌, ◌-◌, ◌/◌, ◌≤◌}
-use native.Mathlib.Nat.{mul-le-mul}
-use native.Mathlib.Omega.{arith}
-use borrow.Author.Rules.{rules}
-use Rattle.cubemap.proofs.Curves.{bent-most, Bracket, bracket-end}
+use Prim.Native.Nat.{◌-◌}
+use Rattle.cubemap.proofs.Curves.{Bracket}
 use Rattle.geometry.proofs.curve.Given as goal
 
 abbrev pub invariant-loop-low : goal.invariant-loop-low

@@ -1,14 +1,9 @@
 -- `face_coordinates` meets its contract: after m columns the entries below m are there.
-use mathlib.Core.Path.{◌≡◌, refl, ◌∙◌}
+use mathlib.Core.Path.{◌≡◌}
 use mathlib.Core.List.{List}
-use Prim.Native.Nat.{ℕ, ◌+◌, ◌-◌, ◌≤◌, ◌<◌}
-use native.Mathlib.Omega.{arith}
+use Prim.Native.Nat.{ℕ, ◌-◌, ◌≤◌, ◌<◌}
 use lib.IntN.{ℤ, pos}
-use lib.ListN.{length, get_or, set, length-set}
-use mir.Syntax.{w64}
-use mir.Facts.{to_z-of_z}
-use borrow.Author.Rules.{rules}
-use Rattle.arithmetic.proofs.Filling.{entries_next}
+use lib.ListN.{length, get_or}
 use Rattle.cubemap.specs.declared.Format.{Format}
 use Rattle.cubemap.specs.PlaceToRay.{face_coordinate}
 use Rattle.geometry.proofs.face_coordinates.Given as goal

@@ -1,7 +1,6 @@
 -- `format_of` meets its contract: code 0, and every other code.
 use mathlib.Core.Path.{◌≡◌, refl}
 use Prim.Native.Nat.{ℕ, zero, suc}
-use borrow.Author.Rules.{rules}
 use Rattle.cubemap.specs.declared.Format.{Format}
 use Rattle.cubemap.specs.Interface.{format_of}
 use Rattle.geometry.proofs.format_of.Goals as goal

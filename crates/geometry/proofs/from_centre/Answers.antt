@@ -2,7 +2,6 @@
 use Prim.Native.Nat.{◌+◌, ◌*◌}
 use native.Mathlib.Omega.{arith}
 use lib.IntN.{pos}
-use borrow.Author.Rules.{rules}
 use Rattle.arithmetic.proofs.Held.{Held, held-nat, sub-ok, sub}
 use Rattle.geometry.proofs.from_centre.Goals.{Start}
 use Rattle.geometry.proofs.from_centre.Goals as goal

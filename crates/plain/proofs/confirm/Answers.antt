@@ -1,22 +1,19 @@
 -- `confirm` meets its contract: column by column, what is carried is that of the column, and its entry and that of its
 -- row are tried.
-use mathlib.Core.Path.{◌≡◌}
 use Prim.Native.Nat.{ℕ, ◌+◌, ◌-◌, ◌/◌, ◌%◌, ◌^◌, ◌≤◌, ◌<◌}
 use native.Mathlib.Nat.{le_trans}
 use native.Mathlib.Omega.{arith}
-use lib.ListN.{length, get_or}
+use lib.ListN.{get_or}
 use lib.Dec.{leb, ltb, leb→le, ltb→lt}
 use lib.Bits.{bit_and, bit_or, and_le_l, and_le_r}
 use borrow.Author.Rules.{rules}
 use Rattle.arithmetic.proofs.Tests.{and_left, and_right, passes}
 use Rattle.arithmetic.proofs.Bits.{or_left, or_right}
 use Rattle.plain.specs.declared.Walk.{Walk}
-use Rattle.plain.specs.declared.Carried.{Carried}
 use Rattle.plain.proofs.Confirmed.{far, Left, left-small, left-least, correction}
 use Rattle.plain.proofs.Carrying.{top, left_by, Reached, Stands, left_at, rest-fits, rest-room, wide_fits, wide_room}
 use Rattle.plain.proofs.Carrying.{column-entered, row-entered, entered-length}
-use Rattle.plain.proofs.Carrying.{Going, going-from, going_next, confirmed}
-use Rattle.plain.proofs.confirm.Invariants.{carried}
+use Rattle.plain.proofs.Carrying.{going-from, going_next, confirmed}
 use Rattle.plain.proofs.confirm.Goals.{After-width_from-width, In-loop-i}
 use Rattle.plain.proofs.confirm.Goals as goal
 

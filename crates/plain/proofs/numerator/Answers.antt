@@ -5,7 +5,6 @@ use lib.Dec.{lit≤}
 use lib.IntN.{pos, ◌+ℤ◌, ◌*ℤ◌}
 use mir.Syntax.{w64}
 use mir.Val.{to_z, of_z}
-use borrow.Author.Rules.{rules}
 use Rattle.arithmetic.proofs.Held.{Held, held, held-nat, held-literal, mul_ok, mul, add_ok, add, read_small}
 use Rattle.plain.proofs.numerator.Goals.{Start}
 use Rattle.plain.proofs.numerator.Goals as goal

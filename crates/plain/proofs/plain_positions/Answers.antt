@@ -1,5 +1,4 @@
 -- `plain_positions` meets its contract: what `confirm` says of any guesses.
-use borrow.Author.Rules.{rules}
 use Rattle.plain.proofs.plain_positions.Goals as goal
 
 pub returns : goal.returns

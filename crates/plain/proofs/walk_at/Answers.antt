@@ -4,7 +4,6 @@ use native.Mathlib.Omega.{arith}
 use lib.IntN.{pos}
 use mir.Syntax.{w64}
 use mir.Val.{of_z}
-use borrow.Author.Rules.{rules}
 use Rattle.arithmetic.specs.Integers.{natural}
 use Rattle.arithmetic.proofs.Held.{Held, held, held-nat, mul, add, mul_ok, add_ok}
 use Rattle.plain.specs.Walks.{walk_at}

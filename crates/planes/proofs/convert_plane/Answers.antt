@@ -5,7 +5,6 @@ use Prim.Native.Nat.{ℕ, ◌+◌, ◌*◌, ◌-◌, ◌≤◌, ◌<◌}
 use native.Mathlib.Nat.{zero-mul, mul-le-mul_left}
 use native.Mathlib.Omega.{arith}
 use lib.ListN.{length}
-use borrow.Author.Rules.{rules}
 use borrow.Rule.Slice.PartMut.{put_mid}
 use Rattle.arithmetic.proofs.ListParts.{part_length}
 use Rattle.cubemap.specs.Frames.{framed, plane_samples}
@@ -16,7 +15,7 @@ use Rattle.strides.proofs.StrideIndices.{plane-small}
 use Rattle.positions.specs.RayLines.{coordinate_at}
 use Rattle.cubic.specs.Sources.{Source}
 use Rattle.resampling.specs.declared.Row.{Row}
-use Rattle.resampling.specs.RowOfRays.{ray_at, RowReady, Scratch, value_on}
+use Rattle.resampling.specs.RowOfRays.{ray_at, RowReady, value_on}
 use Rattle.planes.specs.TargetPlane.{value_at_index}
 use Rattle.planes.proofs.RunRays as rays
 use Rattle.planes.proofs.convert_plane.Goals as goal

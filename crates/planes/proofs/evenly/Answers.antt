@@ -1,6 +1,5 @@
 -- `evenly` meets its contract: it says yes of CMP alone.
 use mathlib.Core.Path.{sym, ap}
-use borrow.Author.Rules.{rules}
 use Rattle.planes.specs.TargetPlane.{evenly_spaced}
 use Rattle.planes.proofs.evenly.Goals as goal
 

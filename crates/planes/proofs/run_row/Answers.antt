@@ -7,7 +7,6 @@ use native.Mathlib.Omega.{arith}
 use lib.IntN.{ℤ}
 use mir.Syntax.{w64}
 use mir.Val.{of_z}
-use borrow.Author.Rules.{rules}
 use Rattle.arithmetic.proofs.Held.{Held, held, read_small}
 use Rattle.cubemap.specs.Frames.{layout_bytes, face_in, quarter_turns_in}
 use Rattle.positions.specs.RayLines.{coordinate_at}

@@ -3,7 +3,6 @@ use mathlib.Core.Path.{sym, ◌∙◌, ap, subst}
 use native.Mathlib.Omega.{arith}
 use lib.Dec.{T}
 use lib.IntN.{pos}
-use borrow.Author.Rules.{rules}
 use Rattle.cubemap.specs.Rotations.{rotated}
 use Rattle.cubemap.specs.Checks.{ray_in_range}
 use Rattle.planes.proofs.SlotRays.{slot-in-range}

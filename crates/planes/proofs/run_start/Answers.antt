@@ -6,9 +6,7 @@ use lib.IntN.{pos}
 use mir.Syntax.{w64}
 use mir.Val.{of_z}
 use lib.Dec.{T}
-use borrow.Author.Rules.{rules}
 use Rattle.arithmetic.proofs.Held.{Held, held, held-nat, sfits, read_small}
-use Rattle.cubemap.specs.PlaceToRay.{scale}
 use Rattle.cubemap.specs.Rotations.{rotated}
 use Rattle.cubemap.specs.Checks.{ray_in_range}
 use Rattle.cubemap.proofs.FaceCoordinates.{scale-bounded}

@@ -1,11 +1,8 @@
 -- `chord` meets its contract: a step is below 2^36, so that no sum exceeds 64 bits.
-use mathlib.Core.Path.{◌≡◌, ◌∙◌}
-use mathlib.Core.List.{List}
-use Prim.Native.Nat.{ℕ, ◌+◌, ◌*◌, ◌-◌, ◌≤◌}
+use mathlib.Core.Path.{◌∙◌}
 use native.Mathlib.Omega.{arith}
-use lib.ListN.{length, length-set}
+use lib.ListN.{length-set}
 use borrow.Author.Rules.{rules}
-use Rattle.reciprocals.proofs.chord.Invariants.{Stepped}
 use Rattle.reciprocals.proofs.chord.Goals as goal
 
 pub loop-i-init : goal.loop-i-init

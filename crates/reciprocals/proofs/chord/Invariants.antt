@@ -1,10 +1,8 @@
 -- `chord` meets its contract: a step is below 2^36, so that no sum exceeds 64 bits.
-use mathlib.Core.Path.{◌≡◌, ◌∙◌}
+use mathlib.Core.Path.{◌≡◌}
 use mathlib.Core.List.{List}
 use Prim.Native.Nat.{ℕ, ◌+◌, ◌*◌, ◌-◌, ◌≤◌}
-use native.Mathlib.Omega.{arith}
-use lib.ListN.{length, length-set}
-use borrow.Author.Rules.{rules}
+use lib.ListN.{length}
 use Rattle.reciprocals.proofs.chord.Given as goal
 
 pub record Stepped (eightfold i : ℕ) (guesses : List ℕ) : Type 0 where

@@ -1,13 +1,7 @@
 -- `chords` meets its contract: each quotient is taken in 32 bits, and the table keeps its length.
-use mathlib.Core.Path.{◌≡◌, ◌∙◌, ap}
-use mathlib.Core.Logic.{⊎_elim}
-use mathlib.Core.List.{List}
-use Prim.Native.Nat.{ℕ, ◌+◌, ◌-◌, ◌≤◌, ◌<◌}
+use Prim.Native.Nat.{ℕ, ◌+◌, ◌-◌, ◌≤◌}
 use native.Mathlib.Omega.{arith}
-use lib.ListN.{length, length-set}
-use borrow.Author.Rules.{rules}
 use Rattle.reciprocals.proofs.Confirming.{distances-within}
-use Rattle.reciprocals.proofs.chords.Invariants.{Guessed}
 use Rattle.reciprocals.proofs.chords.Goals.{Joined-j-to, Then-j-to}
 use Rattle.reciprocals.proofs.chords.Goals as goal
 

@@ -1,12 +1,8 @@
 -- `chords` meets its contract: each quotient is taken in 32 bits, and the table keeps its length.
-use mathlib.Core.Path.{◌≡◌, ◌∙◌, ap}
-use mathlib.Core.Logic.{⊎_elim}
+use mathlib.Core.Path.{◌≡◌}
 use mathlib.Core.List.{List}
-use Prim.Native.Nat.{ℕ, ◌+◌, ◌-◌, ◌≤◌, ◌<◌}
-use native.Mathlib.Omega.{arith}
-use lib.ListN.{length, length-set}
-use borrow.Author.Rules.{rules}
-use Rattle.reciprocals.proofs.Confirming.{distances-within}
+use Prim.Native.Nat.{ℕ, ◌-◌, ◌≤◌, ◌<◌}
+use lib.ListN.{length}
 use Rattle.reciprocals.proofs.chords.Given as goal
 
 pub record Guessed (from to j first : ℕ) (guesses : List ℕ) : Type 0 where

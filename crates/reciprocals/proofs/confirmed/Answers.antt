@@ -1,13 +1,12 @@
 -- `confirmed` meets its contract: where the bits of all columns are small, each column's are, and its guess is near.
 use mathlib.Core.Path.{◌≡◌, sym, subst}
-use Prim.Native.Nat.{ℕ, ◌*◌, ◌-◌, ◌%◌, ◌^◌, ◌≤◌, ◌<◌}
+use Prim.Native.Nat.{ℕ, ◌*◌, ◌%◌, ◌^◌, ◌≤◌, ◌<◌}
 use native.Mathlib.Omega.{arith}
 use lib.Dec.{ltb, ltb→lt}
 use lib.ListN.{get_or}
-use borrow.Author.Rules.{rules}
 use Rattle.arithmetic.proofs.Tests.{passes, and_left, and_right}
 use Rattle.reciprocals.specs.Reciprocals.{Reciprocal}
-use Rattle.reciprocals.proofs.Confirming.{scaled, remainder-near, Gathered, gathered_next, gathered-all}
+use Rattle.reciprocals.proofs.Confirming.{scaled, remainder-near, gathered_next, gathered-all}
 use Rattle.reciprocals.proofs.confirmed.Goals.{After-remainder_bits, After-wide-distance}
 use Rattle.reciprocals.proofs.confirmed.Goals as goal
 

@@ -1,13 +1,6 @@
 -- `confirmed` meets its contract: where the bits of all columns are small, each column's are, and its guess is near.
-use mathlib.Core.Path.{◌≡◌, sym, subst}
-use Prim.Native.Nat.{ℕ, ◌*◌, ◌-◌, ◌%◌, ◌^◌, ◌≤◌, ◌<◌}
-use native.Mathlib.Omega.{arith}
-use lib.Dec.{ltb, ltb→lt}
-use lib.ListN.{get_or}
-use borrow.Author.Rules.{rules}
-use Rattle.arithmetic.proofs.Tests.{passes, and_left, and_right}
-use Rattle.reciprocals.specs.Reciprocals.{Reciprocal}
-use Rattle.reciprocals.proofs.Confirming.{scaled, remainder-near, Gathered, gathered_next, gathered-all}
+use Prim.Native.Nat.{◌-◌}
+use Rattle.reciprocals.proofs.Confirming.{Gathered}
 use Rattle.reciprocals.proofs.confirmed.Given as goal
 
 abbrev pub invariant-loop-j : goal.invariant-loop-j

@@ -1,10 +1,5 @@
 -- `divided` meets its contract: no distance of the stretch is 0, and the table keeps its length.
-use mathlib.Core.Path.{◌≡◌}
-use mathlib.Core.List.{List}
-use Prim.Native.Nat.{ℕ, ◌-◌, ◌≤◌}
-use lib.ListN.{length}
 use borrow.Author.Rules.{rules}
-use Rattle.reciprocals.proofs.divided.Invariants.{Guessed}
 use Rattle.reciprocals.proofs.divided.Goals as goal
 
 pub quotient-requires : goal.quotient-requires

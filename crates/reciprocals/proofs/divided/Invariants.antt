@@ -3,7 +3,6 @@ use mathlib.Core.Path.{◌≡◌}
 use mathlib.Core.List.{List}
 use Prim.Native.Nat.{ℕ, ◌-◌, ◌≤◌}
 use lib.ListN.{length}
-use borrow.Author.Rules.{rules}
 use Rattle.reciprocals.proofs.divided.Given as goal
 
 pub record Guessed (from j : ℕ) (guesses : List ℕ) : Type 0 where

@@ -1,7 +1,6 @@
 -- `dividend` meets its contract: 2^(31 + shift) is at most 2^60, so that nothing is shifted out.
 use native.Mathlib.Omega.{arith}
 use lib.Pow.{pow_pos}
-use borrow.Author.Rules.{rules}
 use Rattle.reciprocals.proofs.Confirming.{scaled, power-most}
 use Rattle.reciprocals.proofs.dividend.Goals as goal
 

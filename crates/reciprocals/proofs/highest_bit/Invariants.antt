@@ -1,8 +1,5 @@
 -- `highest_bit` meets its contract: no shift is by more than 16 places, and the end takes no place above 29.
-use mathlib.Core.Logic.{⊎_elim}
 use Prim.Native.Nat.{◌+◌, ◌*◌, ◌≤◌}
-use native.Mathlib.Omega.{arith}
-use borrow.Author.Rules.{rules}
 use Rattle.reciprocals.proofs.highest_bit.Given as goal
 
 abbrev pub invariant-loop-half : goal.invariant-loop-half

@@ -3,7 +3,6 @@ use Prim.Native.Nat.{ℕ, ◌*◌, ◌-◌, ◌/◌, ◌%◌, ◌^◌, ◌≤◌
 use native.Mathlib.Nat.{mul-le-mul}
 use native.Mathlib.Omega.{arith}
 use lib.Pow.{shr_le}
-use borrow.Author.Rules.{rules}
 use Rattle.reciprocals.proofs.Confirming.{product_small}
 use Rattle.reciprocals.proofs.improved.Goals.{Start}
 use Rattle.reciprocals.proofs.improved.Goals as goal

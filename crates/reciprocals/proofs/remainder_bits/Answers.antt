@@ -2,7 +2,6 @@
 -- these.
 use Prim.Native.Nat.{◌*◌, ◌<◌}
 use native.Mathlib.Omega.{arith}
-use borrow.Author.Rules.{rules}
 use Rattle.reciprocals.proofs.Confirming.{product_small}
 use Rattle.reciprocals.proofs.remainder_bits.Goals.{Start}
 use Rattle.reciprocals.proofs.remainder_bits.Goals as goal

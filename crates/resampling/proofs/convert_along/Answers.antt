@@ -7,7 +7,6 @@ use lib.IntN.{ℤ}
 use lib.ListN.{length}
 use mir.Syntax.{w64}
 use mir.Val.{to_z, of_z}
-use borrow.Author.Rules.{rules}
 use borrow.Rule.Slice.PartMut.{put_mid}
 use Rattle.arithmetic.specs.ListParts.{part}
 use Rattle.arithmetic.proofs.ListParts.{part_length}
@@ -19,13 +18,13 @@ use Rattle.cubemap.proofs.Faces.{chosen}
 use Rattle.cubemap.proofs.Framed.{framed-cong}
 use Rattle.cubemap.proofs.RotatedRays.{RotatedRay}
 use Rattle.frame.specs.Placing.{placed}
-use Rattle.frame.proofs.Placing.{Placed, kept, none-placed, placed-more, put-placed, placed-all}
+use Rattle.frame.proofs.Placing.{kept, none-placed, placed-more, put-placed, placed-all}
 use Rattle.strides.specs.FaceStrides.{sample_by}
 use Rattle.positions.specs.declared.FaceLines.{FaceLines}
 use Rattle.positions.specs.RayLines.{coordinate_at, Stretch, Positioned}
 use Rattle.resampling.specs.declared.Row.{Row}
 use Rattle.resampling.specs.declared.RowRays.{RowRays}
-use Rattle.resampling.specs.RowOfRays.{ray_at, RowReady, OneFace, lines_on, Scratch, value_on}
+use Rattle.resampling.specs.RowOfRays.{ray_at, RowReady, OneFace, lines_on, value_on}
 use Rattle.resampling.proofs.RowParts.{row-part, one-face-part, stretch-length, column-of}
 use Rattle.resampling.proofs.StretchRays.{across-stretch, down-stretch, located-at, positions}
 use Rattle.resampling.proofs.convert_along.Goals as goal

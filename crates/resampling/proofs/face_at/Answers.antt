@@ -1,7 +1,6 @@
 -- `face_at` meets its contract: the ray is one that a conversion asks for.
 use mathlib.Core.Path.{◌≡◌, sym, ◌∙◌, ap, subst}
 use mir.Facts.{to_z-of_z}
-use borrow.Author.Rules.{rules}
 use Rattle.cubemap.specs.RayToPlace.{face_of}
 use Rattle.cubemap.proofs.RotatedRays.{RotatedRay}
 use Rattle.resampling.specs.RowOfRays.{ray_at}

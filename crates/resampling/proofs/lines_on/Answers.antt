@@ -4,7 +4,6 @@ use Prim.Native.Nat.{◌≤◌}
 use lib.IntN.{ℤ, nat_abs}
 use mir.Syntax.{w64}
 use mir.Val.{to_z, of_z}
-use borrow.Author.Rules.{rules}
 use Rattle.arithmetic.proofs.Held.{held}
 use Rattle.cubemap.specs.declared.Ray.{Ray}
 use Rattle.cubemap.specs.RayToPlace.{across, down}

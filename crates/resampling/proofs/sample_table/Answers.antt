@@ -1,9 +1,7 @@
 -- `sample_table` meets its contract: the two parts of the table have as many positions as the stretch has columns.
 use mathlib.Core.Path.{◌≡◌, ◌∙◌, ap}
-use Prim.Native.Nat.{◌-◌}
 use native.Mathlib.Omega.{arith}
 use lib.ListN.{length}
-use borrow.Author.Rules.{rules}
 use Rattle.arithmetic.proofs.ListParts.{part_length}
 use Rattle.cubemap.specs.Frames.{framed}
 use Rattle.resampling.specs.RowOfRays.{columns_in}

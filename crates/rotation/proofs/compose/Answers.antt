@@ -1,6 +1,5 @@
 -- `compose` meets its contract: the product, which is small enough to be reduced, and its reduction.
 use mathlib.Core.Path.{sym, ◌∙◌, ap, subst}
-use borrow.Author.Rules.{rules}
 use Rattle.cubemap.specs.declared.Rotation.{Rotation}
 use Rattle.cubemap.specs.Rotations.{reduced}
 use Rattle.cubemap.proofs.Ranges.{Within}

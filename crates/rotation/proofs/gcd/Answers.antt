@@ -4,7 +4,6 @@ use native.Mathlib.Omega.{arith}
 use native.Mathlib.Nat.{le_of_lt}
 use Prim.Native.Nat.{ℕ, ◌<◌}
 use lib.Count.{count_trailing_zeros}
-use borrow.Author.Rules.{rules}
 use Rattle.arithmetic.proofs.Divisors.{IsGcd, gcd-zero, gcd-swap, gcd-last, TrailingZeros, trailing_zeros}
 use Rattle.rotation.proofs.gcd.Goals.{After-gcd_of_odd-g}
 use Rattle.rotation.proofs.gcd.Goals as goal

@@ -1,10 +1,9 @@
 -- Both numbers stay odd, and what divides them both does not change. Each turn makes their sum smaller.
 use mathlib.Core.Path.{◌≡◌, sym, subst}
 use native.Mathlib.Omega.{arith}
-use Prim.Native.Nat.{ℕ, ◌+◌, ◌-◌, ◌*◌, ◌%◌, ◌^◌, ◌≤◌}
+use Prim.Native.Nat.{ℕ, ◌-◌, ◌*◌, ◌%◌, ◌^◌, ◌≤◌}
 use lib.Count.{count_trailing_zeros}
 use Rattle.arithmetic.proofs.Divisors.{IsGcd, gcd-same, gcd-swap, gcd-strip, gcd-less}
-use Rattle.rotation.proofs.gcd_of_odd.Invariants.{Inv}
 use Rattle.rotation.proofs.gcd_of_odd.Goals as goal
 
 -- the smaller number taken off the larger one, and the difference halved until it is odd

@@ -1,9 +1,7 @@
 -- Both numbers stay odd, and what divides them both does not change. Each turn makes their sum smaller.
-use mathlib.Core.Path.{◌≡◌, sym, subst}
-use native.Mathlib.Omega.{arith}
-use Prim.Native.Nat.{ℕ, ◌+◌, ◌-◌, ◌*◌, ◌%◌, ◌^◌, ◌≤◌}
-use lib.Count.{count_trailing_zeros}
-use Rattle.arithmetic.proofs.Divisors.{IsGcd, gcd-same, gcd-swap, gcd-strip, gcd-less}
+use mathlib.Core.Path.{◌≡◌}
+use Prim.Native.Nat.{ℕ, ◌+◌, ◌%◌}
+use Rattle.arithmetic.proofs.Divisors.{IsGcd}
 use Rattle.rotation.proofs.gcd_of_odd.Given as goal
 
 pub record Inv (a b x y : ℕ) : Type 0 where

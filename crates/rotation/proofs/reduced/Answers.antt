@@ -1,6 +1,5 @@
 -- `reduced` meets its contract: divided, and then the sign.
 use mathlib.Core.Path.{sym, ◌∙◌, ap, subst}
-use borrow.Author.Rules.{rules}
 use Rattle.cubemap.specs.Rotations.{sign_normalized}
 use Rattle.cubemap.proofs.Ranges.{Within}
 use Rattle.cubemap.proofs.Reduction.{divided-within}

@@ -1,7 +1,6 @@
 -- `sampler_of` meets its contract.
 use mathlib.Core.Path.{◌≡◌, refl}
 use Prim.Native.Nat.{ℕ, zero, suc}
-use borrow.Author.Rules.{rules}
 use Rattle.cubemap.specs.declared.Sampler.{Sampler}
 use Rattle.cubemap.specs.Interface.{sampler_of}
 use Rattle.sampling.proofs.sampler_of.Goals as goal

@@ -1,9 +1,7 @@
 -- `row_weight` meets its contract: after m columns the sum is that of the first m weights.
 use mathlib.Core.Path.{refl}
-use Prim.Native.Nat.{◌-◌}
 use native.Mathlib.Omega.{arith}
-use lib.ListN.{get_or}
-use Rattle.scoring.proofs.Summing.{Summed, summed-none, summed-next, summed-all}
+use Rattle.scoring.proofs.Summing.{summed-none, summed-next, summed-all}
 use Rattle.scoring.proofs.row_weight.Goals as goal
 
 pub loop-column-init : goal.loop-column-init

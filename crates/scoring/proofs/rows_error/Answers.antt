@@ -1,6 +1,5 @@
 -- `rows_error` meets its contract: the row and the opposite one have the same weights, so the squares are summed before they are weighed.
 use mathlib.Core.Path.{◌∙◌}
-use borrow.Author.Rules.{rules}
 use Rattle.differences.specs.RowSquares.{faces_squares}
 use Rattle.scoring.proofs.WeighedSums.{weighed-squares}
 use Rattle.scoring.proofs.rows_error.Goals as goal

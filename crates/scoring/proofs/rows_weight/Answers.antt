@@ -3,7 +3,6 @@ use mathlib.Core.Path.{◌∙◌, ap₂}
 use Prim.Native.Nat.{ℕ, ◌+◌}
 use native.Mathlib.Omega.{arith}
 use lib.ListN.{get_or}
-use borrow.Author.Rules.{rules}
 use Rattle.arithmetic.specs.Sums.{sum_below}
 use Rattle.arithmetic.proofs.Sums.{both-apart, both-same}
 use Rattle.scoring.proofs.rows_weight.Goals.{Start}

@@ -2,7 +2,6 @@
 use mathlib.Core.Path.{refl, sym, ◌∙◌, ap, ap₂, subst₂}
 use mathlib.Core.List.{List}
 use Prim.Native.Nat.{ℕ}
-use borrow.Author.Rules.{rules}
 use Rattle.cubemap.specs.Frames.{Frame}
 use Rattle.cubemap.specs.Checks.{score_settings}
 use Rattle.cubemap.specs.declared.Shape.{Shape}

@@ -1,7 +1,6 @@
 -- `score_answer` meets its contract: it asks the checks in their order.
 use mathlib.Core.Path.{◌≡◌, refl}
 use mathlib.Core.List.{List}
-use borrow.Author.Rules.{rules}
 use Rattle.cubemap.specs.Interface.{Answer, answer}
 use Rattle.cubemap.specs.Checks.{samples_ok, lowest_beyond, score_settings, Check, score_checks}
 use Rattle.cubemap.proofs.Passed.{held}

@@ -1,21 +1,15 @@
 -- `score_planes` meets its contract: after n turns the two sums are those of the first n rows and of the n last ones.
-use mathlib.Core.Path.{◌≡◌, refl, sym, ◌∙◌, ap, ap₂}
-use mathlib.Core.List.{List}
-use Prim.Native.Nat.{ℕ, suc, ◌+◌, ◌*◌, ◌-◌, ◌≤◌}
+use mathlib.Core.Path.{refl, sym, ◌∙◌, ap, ap₂}
+use Prim.Native.Nat.{◌*◌}
 use native.Mathlib.Omega.{arith}
-use lib.ListN.{length}
-use Rattle.arithmetic.specs.Sums.{sum_below, both_terms}
 use Rattle.arithmetic.proofs.Sums.{sum-ends}
-use Rattle.cubemap.specs.declared.Format.{Format}
-use Rattle.cubemap.specs.declared.Place.{Place}
 use Rattle.cubemap.specs.declared.Scored.{Scored}
-use Rattle.cubemap.specs.Score.{weight}
 use Rattle.cubemap.proofs.Scores.{row_errors, errors-by-rows, weights-by-rows}
 use Rattle.strides.specs.FaceStrides.{sample_by}
 use Rattle.weights.proofs.Weighing.{entry-most, row-weights, both-rows}
-use Rattle.scoring.proofs.Summing.{Running, running_none, running-next}
+use Rattle.scoring.proofs.Summing.{running_none, running-next}
 use Rattle.scoring.proofs.WeighedSums.{row-errors}
-use Rattle.scoring.proofs.score_planes.Invariants.{RowsSummed, row_weights}
+use Rattle.scoring.proofs.score_planes.Invariants.{row_weights}
 use Rattle.scoring.proofs.score_planes.Goals as goal
 
 pub loop-row-init : goal.loop-row-init

@@ -1,11 +1,10 @@
 -- `weigh` meets its contract: after m columns the sum is that of the first m.
 use mathlib.Core.Path.{refl}
-use mathlib.Core.List.{List}
-use Prim.Native.Nat.{ℕ, ◌*◌, ◌-◌, ◌≤◌}
+use Prim.Native.Nat.{◌≤◌}
 use native.Mathlib.Nat.{mul-le-mul}
 use native.Mathlib.Omega.{arith}
 use lib.ListN.{get_or}
-use Rattle.scoring.proofs.Summing.{Summed, summed-none, summed-next, summed-all}
+use Rattle.scoring.proofs.Summing.{summed-none, summed-next, summed-all}
 use Rattle.scoring.proofs.weigh.Invariants.{term}
 use Rattle.scoring.proofs.weigh.Goals.{In-loop-column}
 use Rattle.scoring.proofs.weigh.Goals as goal

@@ -1,11 +1,8 @@
 -- `weigh` meets its contract: after m columns the sum is that of the first m.
-use mathlib.Core.Path.{refl}
 use mathlib.Core.List.{List}
-use Prim.Native.Nat.{ℕ, ◌*◌, ◌-◌, ◌≤◌}
-use native.Mathlib.Nat.{mul-le-mul}
-use native.Mathlib.Omega.{arith}
+use Prim.Native.Nat.{ℕ, ◌*◌, ◌-◌}
 use lib.ListN.{get_or}
-use Rattle.scoring.proofs.Summing.{Summed, summed-none, summed-next, summed-all}
+use Rattle.scoring.proofs.Summing.{Summed}
 use Rattle.scoring.proofs.weigh.Given as goal
 
 -- the part of a column

@@ -2,7 +2,6 @@
 use mathlib.Core.Path.{◌≡◌, sym, subst}
 use mathlib.Core.List.{List}
 use Prim.Native.Nat.{ℕ}
-use borrow.Author.Rules.{rules}
 use Rattle.cubemap.specs.declared.Format.{Format}
 use Rattle.positions.specs.declared.Line.{Line}
 use Rattle.positions.specs.RayLines.{Positioned}

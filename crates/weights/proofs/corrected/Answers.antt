@@ -1,5 +1,4 @@
 -- `corrected` meets its contract: nothing is said of a guess.
-use borrow.Author.Rules.{rules}
 use Rattle.weights.proofs.Passing.{test-bounds}
 use Rattle.weights.proofs.corrected.Goals as goal
 

@@ -2,7 +2,6 @@
 use Prim.Native.Nat.{ℕ, ◌*◌, ◌-◌, ◌≤◌}
 use native.Mathlib.Nat.{mul-le-mul}
 use native.Mathlib.Omega.{arith}
-use borrow.Author.Rules.{rules}
 use Rattle.weights.proofs.guess_from.Goals as goal
 
 product : (known other k : ℕ) → known ≤ 4294967296 → other ≤ 786432 → known * (5 * other - k) ≤ 4294967296 * 3932160

@@ -1,13 +1,10 @@
 -- `most` meets its contract: bisection keeps a number that passes below one that does not.
 use mathlib.Core.Path.{◌≡◌, sym, ◌∙◌, subst}
-use Prim.Native.Nat.{ℕ, ◌+◌, ◌*◌, ◌-◌, ◌≤◌, ◌<◌}
+use Prim.Native.Nat.{ℕ, ◌+◌, ◌*◌, ◌≤◌, ◌<◌}
 use native.Mathlib.Omega.{arith}
 use lib.Dec.{T, le→leb}
-use borrow.Author.Rules.{rules}
 use Rattle.arithmetic.proofs.Tests.{passes, fails}
-use Rattle.weights.specs.declared.WeightTest.{WeightTest}
 use Rattle.weights.specs.WeightTests.{passing}
-use Rattle.weights.proofs.most.Invariants.{Bracket}
 use Rattle.weights.proofs.most.Goals as goal
 
 next : (low high : ℕ) → low < high → high ≤ low + 1 → high ≡ low + 1

@@ -1,10 +1,6 @@
 -- `most` meets its contract: bisection keeps a number that passes below one that does not.
-use mathlib.Core.Path.{◌≡◌, sym, ◌∙◌, subst}
-use Prim.Native.Nat.{ℕ, ◌+◌, ◌*◌, ◌-◌, ◌≤◌, ◌<◌}
-use native.Mathlib.Omega.{arith}
-use lib.Dec.{T, le→leb}
-use borrow.Author.Rules.{rules}
-use Rattle.arithmetic.proofs.Tests.{passes, fails}
+use Prim.Native.Nat.{ℕ, ◌-◌, ◌≤◌, ◌<◌}
+use lib.Dec.{T}
 use Rattle.weights.specs.declared.WeightTest.{WeightTest}
 use Rattle.weights.specs.WeightTests.{passing}
 use Rattle.weights.proofs.most.Given as goal

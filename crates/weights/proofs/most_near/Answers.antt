@@ -1,6 +1,5 @@
 -- `most_near` meets its contract: what two tests do not show, the bisection finds.
 use mathlib.Core.Path.{sym, ◌∙◌}
-use borrow.Author.Rules.{rules}
 use Rattle.arithmetic.proofs.Tests.{passes, fails}
 use Rattle.weights.proofs.most_near.Goals as goal
 

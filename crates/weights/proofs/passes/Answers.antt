@@ -1,7 +1,6 @@
 -- `passes` meets its contract: the left side that is rounded up decides alike.
 use mathlib.Core.Path.{◌∙◌, ap}
 use lib.Dec.{leb}
-use borrow.Author.Rules.{rules}
 use Rattle.weights.proofs.Passing.{rounded-up}
 use Rattle.weights.proofs.passes.Goals as goal
 

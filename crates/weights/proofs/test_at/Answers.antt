@@ -3,7 +3,6 @@ use mathlib.Core.Path.{◌∙◌, ap, subst₂}
 use Prim.Native.Nat.{ℕ, ◌*◌, ◌≤◌}
 use native.Mathlib.Nat.{mul-le-mul}
 use native.Mathlib.Omega.{arith}
-use borrow.Author.Rules.{rules}
 use Rattle.cubemap.proofs.Weights.{sixth}
 use Rattle.weights.specs.WeightTests.{TestOf}
 use Rattle.weights.proofs.test_at.Goals as goal

@@ -1,10 +1,8 @@
 -- `weigh_row` meets its contract: the table is filled from both ends, whatever it held before.
-use mathlib.Core.Path.{◌≡◌, ◌∙◌}
+use mathlib.Core.Path.{◌≡◌}
 use Prim.Native.Nat.{◌-◌}
-use native.Mathlib.Omega.{arith}
-use lib.ListN.{length, length-set}
-use borrow.Author.Rules.{rules}
-use Rattle.weights.proofs.WeightTables.{Filled, filled_next, filled-all}
+use lib.ListN.{length}
+use Rattle.weights.proofs.WeightTables.{Filled}
 use Rattle.weights.proofs.weigh_row.Given as goal
 
 abbrev pub invariant-loop-column : goal.invariant-loop-column

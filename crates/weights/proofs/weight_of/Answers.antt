@@ -1,5 +1,4 @@
 -- `weight_of` meets its contract: the largest number that passes the test is the weight.
-use borrow.Author.Rules.{rules}
 use Rattle.weights.proofs.Passing.{test-bounds, most-weighs, most-small}
 use Rattle.weights.proofs.weight_of.Goals as goal
 

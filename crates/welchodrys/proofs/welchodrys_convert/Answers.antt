@@ -1,6 +1,5 @@
 -- `welchodrys_convert` meets its promise: the outcome is that of `convert`, and what is only read stays.
 use mathlib.Core.Path.{◌≡◌, refl, sym, ◌∙◌, ap}
-use mathlib.Core.List.{List}
 use Prim.Native.Nat.{ℕ}
 use mir.Facts.{to_z-of_z}
 use mir.Syntax.{w64}

@@ -8,7 +8,6 @@ use lib.Dec.{T}
 use lib.IntN.{ℤ, pos, ◌+ℤ◌, ◌*ℤ◌}
 use mir.Syntax.{w64}
 use mir.Val.{to_z, of_z}
-use borrow.Author.Rules.{rules}
 use Rattle.arithmetic.specs.Integers.{natural}
 use Rattle.arithmetic.proofs.Held.{Held, held, held-nat, read_result, read_small}
 use Rattle.cubemap.specs.Frames.{sample_at}

@@ -1,7 +1,6 @@
 -- `first_in_row` meets its contract: the column stride is 1, or it is not.
 use mathlib.Core.Path.{sym}
 use Prim.Native.Nat.{◌+◌}
-use borrow.Author.Rules.{rules}
 use Rattle.arithmetic.proofs.Tests.{cond-true, cond-false}
 use Rattle.cubic.specs.InsideTaps.{ahead}
 use Rattle.cubic.proofs.InsideTaps.{reads-ahead, reads-back}

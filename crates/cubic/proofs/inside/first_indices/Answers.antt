@@ -1,10 +1,5 @@
 -- `first_indices` meets its contract: after each position the indices up to it are written.
-use Prim.Native.Nat.{◌-◌}
 use native.Mathlib.Omega.{arith}
-use lib.ListN.{length}
-use borrow.Author.Rules.{rules}
-use Rattle.cubic.specs.PositionTables.{Filled}
-use Rattle.cubic.specs.InsideTaps.{first_index}
 use Rattle.cubic.proofs.PositionTables.{filled_none, filled_next, filled-all}
 use Rattle.cubic.proofs.inside.first_indices.Goals as goal
 

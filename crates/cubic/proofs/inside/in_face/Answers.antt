@@ -9,7 +9,6 @@ use lib.Signed.{le_z, lt_z}
 use mir.Syntax.{w32}
 use mir.Val.{of_z}
 use borrow.Author.Tests.{le-leb}
-use borrow.Author.Rules.{rules}
 use Rattle.arithmetic.proofs.Narrow.{Narrow, narrowed, narrow-nat, add_ok, add}
 use Rattle.cubic.specs.InsideTaps.{in_face}
 use Rattle.cubic.proofs.inside.in_face.Goals.{Start}

@@ -1,10 +1,9 @@
 -- `inside_from` meets its contract: after each position the values up to it are stored, and every other byte is as it
 -- was.
 use mathlib.Core.Path.{◌≡◌, subst}
-use Prim.Native.Nat.{ℕ, ◌-◌}
+use Prim.Native.Nat.{ℕ}
 use native.Mathlib.Omega.{arith}
 use lib.ListN.{length, get_or}
-use borrow.Author.Rules.{rules}
 use Rattle.cubic.specs.InsideTaps.{first_index, StoredInside}
 use Rattle.cubic.proofs.Storing.{stored-length}
 use Rattle.cubic.proofs.CubicValues.{inside-none, inside-next}

@@ -1,8 +1,5 @@
 -- `interior_firsts` meets its contract: the rows of the face run along the rows of the frame, or its columns do.
 use mathlib.Core.Path.{sym, ◌∙◌, ap, subst}
-use Prim.Native.Nat.{ℕ}
-use borrow.Author.Rules.{rules}
-use Rattle.strides.specs.declared.Strides.{Strides}
 use Rattle.strides.specs.FaceStrides.{Contiguous, FaceLeads}
 use Rattle.strides.proofs.StrideIndices.{along-contiguous, along-not, exchanged-leads}
 use Rattle.cubic.specs.InsideTaps.{first_index, interior_first}

@@ -1,9 +1,6 @@
 -- `interior_from` meets its contract: the rows of the face run along the rows of the frame, or its columns do.
 use mathlib.Core.Path.{sym, ◌∙◌, ap, subst}
-use Prim.Native.Nat.{ℕ}
 use native.Mathlib.Omega.{arith}
-use borrow.Author.Rules.{rules}
-use Rattle.strides.specs.declared.Strides.{Strides}
 use Rattle.strides.specs.FaceStrides.{Contiguous}
 use Rattle.strides.proofs.StrideIndices.{along-contiguous, along-not}
 use Rattle.cubic.specs.InsideTaps.{first_index}

@@ -1,6 +1,5 @@
 -- `weights_in_row` meets its contract: the column stride is 1, or it is not.
 use mathlib.Core.Path.{sym, ◌∙◌, ap}
-use borrow.Author.Rules.{rules}
 use Rattle.arithmetic.proofs.Tests.{cond-true, cond-false}
 use Rattle.cubemap.specs.Samplers.{phase}
 use Rattle.strides.specs.declared.Strides.{Strides}

@@ -5,7 +5,6 @@ use native.Mathlib.Omega.{arith}
 use lib.IntN.{ℤ, nat_abs}
 use mir.Syntax.{w32, w64}
 use mir.Val.{to_z, of_z}
-use borrow.Author.Rules.{rules}
 use Rattle.arithmetic.proofs.Held.{read_result}
 use Rattle.arithmetic.proofs.Narrow.{widen_ok, widen}
 use Rattle.cubemap.specs.declared.Place.{Place}

@@ -6,7 +6,6 @@ use lib.IntN.{ℤ}
 use mir.Syntax.{w64}
 use mir.Val.{of_z}
 use mir.Facts.{to_z-of_z}
-use borrow.Author.Rules.{rules}
 use Rattle.arithmetic.proofs.Held.{Held, held, held-literal, add_ok, add}
 use Rattle.cubemap.specs.Samplers.{tap_place}
 use Rattle.strides.specs.FaceStrides.{sample_by}

@@ -4,7 +4,6 @@ use Prim.Native.Nat.{ℕ}
 use lib.IntN.{ℤ, pos, ◌+ℤ◌}
 use mir.Syntax.{w64}
 use mir.Val.{of_z}
-use borrow.Author.Rules.{rules}
 use Rattle.arithmetic.proofs.Held.{Held, held, held-literal, add_ok, add, read_result}
 use Rattle.cubemap.specs.Samplers.{tap_place}
 use Rattle.taps.proofs.TapSums.{packed-grid}

@@ -7,7 +7,6 @@ use lib.Signed.{pos-nat_abs}
 use mir.Syntax.{w64}
 use mir.Val.{to_z, of_z}
 use mir.Facts.{to_z-of_z}
-use borrow.Author.Rules.{rules}
 use Rattle.arithmetic.proofs.Held.{read-sign, cast-not-below}
 use Rattle.cubemap.specs.Samplers.{clip}
 use Rattle.cubemap.proofs.Taps.{clip-inside, clip-negative, clip-beyond}

@@ -3,7 +3,6 @@ use mathlib.Core.Path.{sym, ◌∙◌}
 use Prim.Native.Nat.{◌+◌, ◌/◌}
 use native.Mathlib.Omega.{arith}
 use lib.IntN.{pos}
-use borrow.Author.Rules.{rules}
 use Rattle.arithmetic.proofs.Narrow.{Narrow, read_small, narrow-nat, sub-ok, sub}
 use Rattle.cubic.proofs.PositionTables.{tap-by-quotient}
 use Rattle.cubic.proofs.values.first_tap.Goals.{Start}

@@ -1,6 +1,5 @@
 -- `weights_at` meets its contract: the weights of the position's phase.
 use mathlib.Core.Path.{◌∙◌, ap}
-use borrow.Author.Rules.{rules}
 use Rattle.taps.specs.TapWeights.{weights_of}
 use Rattle.cubic.proofs.values.weights_at.Goals as goal
 

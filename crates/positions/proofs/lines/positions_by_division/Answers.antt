@@ -1,6 +1,6 @@
 -- `positions_by_division` meets its contract: column by column.
 use mathlib.Core.Path.{◌≡◌, sym, ◌∙◌, ap₂, subst, subst₂}
-use Prim.Native.Nat.{ℕ, ◌-◌, ◌≤◌, ◌<◌}
+use Prim.Native.Nat.{ℕ, ◌≤◌, ◌<◌}
 use native.Mathlib.Omega.{arith}
 use lib.Dec.{T}
 use lib.IntN.{ℤ, nat_abs}
@@ -14,7 +14,7 @@ use Rattle.arithmetic.proofs.Held.{Held, sfits, cast_ok}
 use Rattle.cubemap.specs.RayToPlace.{position64}
 use Rattle.positions.specs.RayLines.{line_at, coordinate_at}
 use Rattle.positions.specs.Ratios.{Ratio}
-use Rattle.positions.proofs.Divided.{Divided, divided-next, divided-all, line_read}
+use Rattle.positions.proofs.Divided.{divided-next, divided-all, line_read}
 use Rattle.positions.proofs.lines.positions_by_division.Goals.{After-line_at, After-line_at-d, In-loop-j}
 use Rattle.positions.proofs.lines.positions_by_division.Goals as goal
 

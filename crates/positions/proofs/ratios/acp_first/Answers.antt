@@ -4,7 +4,6 @@ use mathlib.Core.Bool.{true, false}
 use native.Mathlib.Omega.{arith}
 use lib.IntN.{nat_abs}
 use mir.Facts.{to_z-of_z}
-use borrow.Author.Rules.{rules}
 use Rattle.arithmetic.proofs.Held.{tests-negative}
 use Rattle.cubemap.proofs.Positions.{AcpFits, acp-fits, acp-first}
 use Rattle.positions.proofs.ratios.acp_first.Goals.{After-magnitude-k}

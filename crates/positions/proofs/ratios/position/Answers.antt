@@ -4,7 +4,6 @@ use lib.IntN.{pos}
 use mir.Facts.{to_z-of_z}
 use Rattle.arithmetic.proofs.Held.{Held, held-nat, held-literal, sub-ok, sub}
 use Rattle.cubemap.specs.RayToPlace.{position64}
-use borrow.Author.Rules.{rules}
 use Rattle.positions.proofs.ratios.position.Goals.{After-shifted}
 use Rattle.positions.proofs.ratios.position.Goals as goal
 

@@ -9,7 +9,6 @@ use mir.Facts.{to_z-of_z}
 use Rattle.cubemap.specs.declared.Format.{Format}
 use Rattle.cubemap.specs.RayToPlace.{position64}
 use Rattle.cubemap.proofs.Positions.{position-fits}
-use borrow.Author.Rules.{rules}
 use Rattle.positions.proofs.ratios.shifted.Goals.{Start}
 use Rattle.positions.proofs.ratios.shifted.Goals as goal
 

@@ -4,7 +4,6 @@ use Prim.Native.Nat.{◌*◌, ◌/◌}
 use lib.IntN.{pos, ◌-ℤ◌}
 use mir.Facts.{to_z-of_z}
 use Rattle.cubemap.proofs.Positions.{acp_first, position-acp}
-use borrow.Author.Rules.{rules}
 use Rattle.positions.proofs.ratios.shifted_acp.Goals as goal
 
 pub returns : goal.returns

@@ -8,7 +8,6 @@ use lib.IntN.{pos, nat_abs, ◌+ℤ◌, ◌-ℤ◌}
 use lib.Signed.{non_neg}
 use mir.Syntax.{w64}
 use mir.Val.{to_z, of_z}
-use borrow.Author.Rules.{rules}
 use Rattle.arithmetic.proofs.Held.{Held, held, held-nat, add_ok, add, cast_ok}
 use Rattle.arithmetic.proofs.Sizes.{Lifted, lifted}
 use Rattle.cubemap.proofs.Positions.{position-cmp}

@@ -1,10 +1,6 @@
 -- `copy_indexed` meets its contract: after each index the samples up to it are stored.
-use Prim.Native.Nat.{◌-◌}
 use native.Mathlib.Omega.{arith}
-use lib.ListN.{get_or}
-use borrow.Author.Rules.{rules}
-use Rattle.cubemap.specs.Frames.{sample_at}
-use Rattle.cubic.proofs.Storing.{FirstStored, first-none, first-length, first_next, first-all}
+use Rattle.cubic.proofs.Storing.{first-none, first-length, first_next, first-all}
 use Rattle.sampling.proofs.nearest.copy_indexed.Goals as goal
 
 pub loop-j-init : goal.loop-j-init

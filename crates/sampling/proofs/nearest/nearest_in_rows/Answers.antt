@@ -1,7 +1,6 @@
 -- `nearest_in_rows` meets its contract: the samples at the indices of the nearest places are those of the places.
 use mathlib.Core.Path.{◌∙◌, ap}
 use lib.ListN.{length}
-use borrow.Author.Rules.{rules}
 use Rattle.cubemap.specs.Frames.{sample_at}
 use Rattle.cubemap.proofs.Framed.{framed-cong}
 use Rattle.cubic.specs.PositionTables.{position_in}

@@ -1,6 +1,5 @@
 -- `nearest_index` meets its contract: the index of the nearest column and row, which are inside the face.
 use mathlib.Core.Path.{◌∙◌, ap₂}
-use borrow.Author.Rules.{rules}
 use Rattle.arithmetic.specs.Integers.{natural}
 use Rattle.strides.specs.FaceStrides.{index_by}
 use Rattle.strides.proofs.StrideIndices.{askable}

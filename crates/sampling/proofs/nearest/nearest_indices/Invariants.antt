@@ -1,10 +1,7 @@
 -- `nearest_indices` meets its contract: after each position the indices up to it are written.
 use Prim.Native.Nat.{◌-◌}
-use native.Mathlib.Omega.{arith}
 use lib.ListN.{length}
-use borrow.Author.Rules.{rules}
 use Rattle.cubic.specs.PositionTables.{Filled}
-use Rattle.cubic.proofs.PositionTables.{filled_none, filled_next, filled-all}
 use Rattle.sampling.specs.NearestIndices.{nearest_index}
 use Rattle.sampling.proofs.nearest.nearest_indices.Given as goal
 

@@ -4,8 +4,6 @@ use mathlib.Core.List.{List}
 use Prim.Native.Nat.{ℕ}
 use native.Mathlib.Omega.{arith}
 use lib.IntN.{ℤ}
-use borrow.Author.Rules.{rules}
-use borrow.Author.Tests.{not-false}
 use Rattle.positions.specs.declared.Line.{Line}
 use Rattle.stretches.specs.Numbers.{Ahead, Numbers}
 use Rattle.stretches.proofs.Walking.{sum-ahead}

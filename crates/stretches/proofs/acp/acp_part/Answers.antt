@@ -3,7 +3,6 @@ use mathlib.Core.Path.{◌≡◌, sym, ◌∙◌, subst}
 use mathlib.Core.List.{List}
 use Prim.Native.Nat.{ℕ}
 use native.Mathlib.Omega.{arith}
-use borrow.Author.Rules.{rules}
 use Rattle.adjusted.specs.Adjusted.{Sums, Adjusted}
 use Rattle.reciprocals.specs.Reciprocals.{Distances, Reciprocals}
 use Rattle.stretches.proofs.Adjusting.{distances-are, sums-are, adjusted-positioned}

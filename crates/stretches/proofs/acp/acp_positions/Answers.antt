@@ -1,6 +1,5 @@
 -- `acp_positions` meets its contract: by the reciprocals of the distances, or by division.
 use native.Mathlib.Omega.{arith}
-use borrow.Author.Rules.{rules}
 use Rattle.stretches.proofs.Walking.{distance-ahead}
 use Rattle.stretches.proofs.Adjusting.{distances-are}
 use Rattle.stretches.proofs.acp.acp_positions.Goals as goal

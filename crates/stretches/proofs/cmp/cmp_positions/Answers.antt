@@ -1,5 +1,4 @@
 -- `cmp_positions` meets its contract: confirmed, or by division.
-use borrow.Author.Rules.{rules}
 use Rattle.stretches.proofs.cmp.cmp_positions.Goals as goal
 
 pub returns-then-plain_stretch : goal.returns-then-plain_stretch

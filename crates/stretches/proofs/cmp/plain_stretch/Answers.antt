@@ -7,8 +7,6 @@ use lib.IntN.{ℤ, nat_abs}
 use lib.ListN.{length}
 use mir.Syntax.{w64}
 use mir.Val.{to_z, of_z}
-use borrow.Author.Rules.{rules}
-use borrow.Author.Tests.{not-false}
 use Rattle.arithmetic.proofs.Held.{held}
 use Rattle.cubemap.specs.declared.Format.{Format}
 use Rattle.plain.specs.declared.Walk.{Walk}

@@ -1,6 +1,6 @@
 -- `line_numbers` meets its contract: column by column.
 use mathlib.Core.Path.{◌≡◌, refl, sym, ◌∙◌, ap, subst, subst₂}
-use Prim.Native.Nat.{ℕ, ◌-◌, ◌≤◌, ◌<◌}
+use Prim.Native.Nat.{ℕ, ◌≤◌, ◌<◌}
 use native.Mathlib.Omega.{arith}
 use lib.IntN.{ℤ, pos, nat_abs, ◌+ℤ◌, ◌*ℤ◌}
 use lib.ListN.{length}
@@ -11,7 +11,7 @@ use Rattle.arithmetic.proofs.Narrow.{narrow-ok, narrow}
 use Rattle.positions.specs.declared.Line.{Line}
 use Rattle.positions.specs.RayLines.{line_at, coordinate_at}
 use Rattle.stretches.specs.Numbers.{Wide, Numbers}
-use Rattle.stretches.proofs.LineNumbers.{line_of, Numbered, numbered_next, numbered-all}
+use Rattle.stretches.proofs.LineNumbers.{line_of, numbered_next, numbered-all}
 use Rattle.stretches.proofs.line_sums.line_numbers.Goals.{In-loop-j}
 use Rattle.stretches.proofs.line_sums.line_numbers.Goals as goal
 
