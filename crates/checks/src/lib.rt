@@ -5,8 +5,8 @@ ghost use Rattle.std.specs.Prelude.{◌≡◌, ◌&&◌, ◌+◌, ◌*◌, ◌�
 ghost use Rattle.arithmetic.specs.Searches.{all_below};
 ghost use Rattle.cubemap.specs.Interface.{answer, is_accepted, return_code};
 ghost use Rattle.cubemap.specs.Frames.{samples_in};
-ghost use Rattle.cubemap.specs.Checks.{size_ok, depth_ok, code_ok, layout_ok, rotation_in_range, rotation_nonzero, length_ok, sample_ok, samples_ok};
-ghost use Rattle.cubemap.specs.Checks.{lowest_beyond, ray_in_range, ray_nonzero};
+ghost use Rattle.cubemap.specs.Checks.{size_ok, depth_ok, code_ok, layout_ok, length_ok, sample_ok, samples_ok};
+ghost use Rattle.cubemap.specs.Checks.{rotation_in_range, rotation_nonzero, lowest_beyond, ray_in_range, ray_nonzero};
 ghost use Rattle.cubemap.specs.Outcomes.{refusal};
 ghost use Rattle.cubemap.proofs.Layouts.{slots_with, faces_once, turns_few};
 ghost use Rattle.checks.specs.Asking.{checked_means, asked, Readable, Searched};

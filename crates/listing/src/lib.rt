@@ -240,7 +240,7 @@ fn put_lines(text: &mut [u8], at: usize, input: &[u8]) -> usize
 
 // The listing of the input at the start of a buffer that has room for any; the answer is its length.
 pub fn list(input: &[u8], text: &mut [u8; LONGEST]) -> usize
-    ensures { ListingPromise input.now text.old result input.now text.new }
+    ensures { ListingPromise input.entry.now text.old result input.exit.now text.new }
 {
     let lines = put_bytes(text, 0, b"at face column row\n");
     if input.len() <= LIMIT {

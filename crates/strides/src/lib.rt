@@ -8,8 +8,8 @@ ghost use Rattle.cubemap.specs.Frames.{layout_bytes, spot, quarter_turns, index_
 ghost use Rattle.cubemap.specs.Frames as paper;
 ghost use Rattle.cubemap.specs.Checks.{layout_ok};
 ghost use Rattle.strides.specs.FaceStrides as by;
-ghost use Rattle.strides.specs.FaceStrides.{index_by, Contiguous, StridesTo, Askable, FaceLeads, strides_in, with_strides};
-ghost use Rattle.strides.specs.FaceStrides.{LeadsTo, StrideTable};
+ghost use Rattle.strides.specs.FaceStrides.{index_by, Contiguous, StridesTo, Askable, FaceLeads};
+ghost use Rattle.strides.specs.FaceStrides.{strides_in, with_strides, LeadsTo, StrideTable};
 ghost use Rattle.strides.specs.FaceStrides.{Aligned, StridedFace, sample_on_face, RowOf};
 
 use cubemap::{Layout, Place};

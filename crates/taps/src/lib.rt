@@ -1,5 +1,5 @@
-// Sixteen samples by the weights of their taps, with twelve products: two sums of four samples are found at once, in the lower and in the upper half of a
-// 64-bit number.
+// Sixteen samples by the weights of their taps, with twelve products: two sums of four samples are found at once, in
+// the lower and in the upper half of a 64-bit number.
 #![tactic(auto)]
 
 ghost use Rattle.std.specs.Prelude.{◌≡◌, ◌+◌, ◌*◌, ◌^◌, ◌≤◌, ◌<◌, pos, nat_abs, length};
@@ -12,7 +12,8 @@ mod table;
 
 // ---- weights
 
-// The table of tap weights, made once a call and lent from there: a constant that is read by an index would be made anew each time.
+// The table of tap weights, made once a call and lent from there: a constant that is read by an index would be made
+// anew each time.
 pub fn tap_weights() -> [i64; 256]
     ensures { IsWeights result }
 {
@@ -74,7 +75,8 @@ struct Sizes {
 
 fn sizes_of(w: Weights) -> Sizes
     requires { Balanced w }
-    ensures { (result.s0 ≡ nat_abs w.w0) × (result.s1 ≡ nat_abs w.w1) × (result.s2 ≡ nat_abs w.w2) × (result.s3 ≡ nat_abs w.w3) }
+    ensures { (result.s0 ≡ nat_abs w.w0) × (result.s1 ≡ nat_abs w.w1) × (result.s2 ≡ nat_abs w.w2)
+        × (result.s3 ≡ nat_abs w.w3) }
 {
     let w0 = w.w0;
     let w1 = w.w1;
@@ -93,7 +95,8 @@ fn sizes_of(w: Weights) -> Sizes
 // Four samples, 16 bits each.
 pub fn pack(a: u64, b: u64, c: u64, d: u64) -> u64
     requires { (a < 65536) × (b < 65536) × (c < 65536) × (d < 65536) }
-    ensures { (sample_in result 0 ≡ a) × (sample_in result 1 ≡ b) × (sample_in result 2 ≡ c) × (sample_in result 3 ≡ d) }
+    ensures { (sample_in result 0 ≡ a) × (sample_in result 1 ≡ b) × (sample_in result 2 ≡ c)
+        × (sample_in result 3 ≡ d) }
 {
     a + 65536 * b + 4294967296 * c + 281474976710656 * d
 }
@@ -136,7 +139,8 @@ fn odd(x: u64) -> u64
 
 // ---- sums
 
-// Two sums of four samples by the sizes of their weights, 32 bits apart. To each 2^28 is added, so that neither borrows from the other.
+// Two sums of four samples by the sizes of their weights, 32 bits apart. To each 2^28 is added, so that neither borrows
+// from the other.
 fn both(z: Sizes, a: u64, b: u64, c: u64, d: u64) -> u64
     requires { IsSizes z × Pair a × Pair b × Pair c × Pair d }
     ensures { result ≡ fields z a b c d }
@@ -148,7 +152,8 @@ fn both(z: Sizes, a: u64, b: u64, c: u64, d: u64) -> u64
     (1152921504875282432 + s1 * b + s2 * c) - (s0 * a + s3 * d)
 }
 
-// Four such sums by the sizes of their weights: two in each number. What was added to them, by weights that add up to 2^19, is 2^47.
+// Four such sums by the sizes of their weights: two in each number. What was added to them, by weights that add up to
+// 2^19, is 2^47.
 fn of_fields(z: Sizes, e: u64, o: u64) -> i64
     requires { IsSizes z }
     ensures { (result ≡ of_fields z e o) × (nat_abs result ≤ 2 ^ 58) }
@@ -165,7 +170,8 @@ fn of_fields(z: Sizes, e: u64, o: u64) -> i64
 // Four rows of four samples below 2^12, each row in one number.
 pub fn sixteen(w: Weights, u: Weights, a: u64, b: u64, c: u64, d: u64) -> i64
     requires { Balanced w × Balanced u × Packed12 a × Packed12 b × Packed12 c × Packed12 d }
-    ensures { (result ≡ weighed w (row_sum u (sample_in a)) (row_sum u (sample_in b)) (row_sum u (sample_in c)) (row_sum u (sample_in d)))
+    ensures { (result ≡ weighed w (row_sum u (sample_in a)) (row_sum u (sample_in b))
+        (row_sum u (sample_in c)) (row_sum u (sample_in d)))
         × (nat_abs result ≤ 2 ^ 58) }
 {
     let z = sizes_of(w);

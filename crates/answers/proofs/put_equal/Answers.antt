@@ -17,5 +17,6 @@ returns-then-equal c =
 pub returns-else-equal : goal.returns-else-equal
 returns-else-equal c =
     let a = c.args in
-    sym (put-none c.put-else-equal.new.buffer 1) ∙ put_next a.answer.now c.put-else-equal.new.buffer 0 (pos 0) [] c.put-else-equal.ensures
+    sym (put-none c.put-else-equal.new.buffer 1)
+    ∙ put_next a.answer.now c.put-else-equal.new.buffer 0 (pos 0) [] c.put-else-equal.ensures
     ∙ ap (λ (b : Bool). put_all a.answer.now 0 (equal_values b)) (sym c.if-equal.false)

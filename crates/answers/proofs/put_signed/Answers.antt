@@ -11,5 +11,6 @@ pub returns : goal.returns
 returns c =
     let a = c.args in
     c.put.ensures
-    ∙ ap (λ (n : ℕ). put_at a.buffer.now a.k (pos n)) (c.twos_complement.ensures ∙ ap twos_complement (to_z-of_z c.ranges.v))
+    ∙ ap (λ (n : ℕ). put_at a.buffer.now a.k (pos n))
+    (c.twos_complement.ensures ∙ ap twos_complement (to_z-of_z c.ranges.v))
     ∙ put-bits a.buffer.now a.k a.v

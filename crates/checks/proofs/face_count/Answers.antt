@@ -15,7 +15,8 @@ module _ {layout : List ℕ} {face count slot : ℕ} (p : Counted layout face co
   counted-yes e = record {
     bounded = omega arith;
     few = omega arith;
-    counted = ap (λ n. n + 1) p.counted ∙ sym (count_yes (holds layout face) slot (eq-eqb (face_in layout slot) face e));
+    counted = ap (λ n. n + 1) p.counted
+        ∙ sym (count_yes (holds layout face) slot (eq-eqb (face_in layout slot) face e));
   }
 
   counted-no : (face_in layout slot ≡ face → ⊥) → Counted layout face count (slot + 1)

@@ -26,16 +26,24 @@ loop-index-preserved c =
 
 pub returns-then-bound-sample : goal.returns-then-bound-sample
 returns-then-bound-sample c =
-    let h = le-ltb _ _ (rw c.sample.ensures.0 at c.if-bound-sample.true) in
-    (sym (lowest-here c.loop-index.invariant (omega arith) (ap not h)) ∙ searched _ _ _ _ c.sample_bound-bound.ensures.0 c.samples_in-count.ensures.0, omega arith)
+    let h = le-ltb _ _ (rw c.sample.ensures.0 at c.if-bound-sample.true) in (
+      sym (lowest-here c.loop-index.invariant (omega arith) (ap not h))
+          ∙ searched _ _ _ _ c.sample_bound-bound.ensures.0 c.samples_in-count.ensures.0,
+      omega arith,
+    )
 
 pub returns : goal.returns
-returns c = (sym (lowest-none c.loop-index.invariant (omega arith)) ∙ searched _ _ _ _ c.sample_bound-bound.ensures.0 c.samples_in-count.ensures.0, omega arith)
+returns c = (
+  sym (lowest-none c.loop-index.invariant (omega arith))
+      ∙ searched _ _ _ _ c.sample_bound-bound.ensures.0 c.samples_in-count.ensures.0,
+  omega arith,
+)
 
 pub loop-index-init : goal.loop-index-init
 loop-index-init c =
     let s = c.args in
-    subst₂ (λ bound count. Asked (beyond s.bytes.now bound) false count c.blocks_ok-index.result) (sym c.sample_bound-bound.ensures.0)
+    subst₂ (λ bound count. Asked (beyond s.bytes.now bound) false count c.blocks_ok-index.result)
+    (sym c.sample_bound-bound.ensures.0)
     (sym c.samples_in-count.ensures.0)
     (asked-all (sample_ok s.shape s.bytes.now) _ _ c.blocks_ok-index.ensures.1 c.blocks_ok-index.ensures.0)
 

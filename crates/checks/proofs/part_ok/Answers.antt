@@ -24,7 +24,8 @@ loop-i-preserved c =
     let s = c.args in
     record {
       bounded = omega arith;
-      sixteen = or-below 16 c.loop-i.bits c.sample.result ∙ ap₂ ◌&&◌ c.loop-i.invariant.sixteen (lt-ltb _ _ c.sample.ensures.1);
+      sixteen = or-below 16 c.loop-i.bits c.sample.result
+          ∙ ap₂ ◌&&◌ c.loop-i.invariant.sixteen (lt-ltb _ _ c.sample.ensures.1);
       agrees = or-below s.shape.depth c.loop-i.bits c.sample.result
           ∙ ap₂ ◌&&◌ c.loop-i.invariant.agrees (ap (λ v. ltb v (2 ^ s.shape.depth)) c.sample.ensures.0)
           ∙ sym (all-next (sample_from_ok s.shape s.bytes.now s.from) c.loop-i.i);

@@ -9,6 +9,8 @@ use Rattle.checks.proofs.rotation_in_range.Goals as goal
 pub returns : goal.returns
 returns c =
     let t = c.args.t in
-    (λ i. read-within 31 t.e0 (search rules) c.within-s0.ensures i && read-within 31 t.e1 (search rules) c.within-s1.ensures i
-    && read-within 31 t.e2 (search rules) c.within-s2.ensures i && read-within 31 t.e3 (search rules) c.within-s3.ensures i)
+    (λ i. read-within 31 t.e0 (search rules) c.within-s0.ensures i
+    && read-within 31 t.e1 (search rules) c.within-s1.ensures i
+    && read-within 31 t.e2 (search rules) c.within-s2.ensures i
+    && read-within 31 t.e3 (search rules) c.within-s3.ensures i)
     ∙ sym (rotation-range-tests t)

@@ -24,7 +24,8 @@ returns-then-mirror-row c =
     _ (row_squares a.first_mirror.now a.second.now a.second_strides a.mirror m) c.if-mirror-row.true)
 
 pub returns-then-not-within : goal.returns-then-not-within
-returns-then-not-within c = added-cong c.add_pairs.ensures (λ m h. both c.args.row c.args.mirror _ _ c.if-mirror-row.false)
+returns-then-not-within c =
+    added-cong c.add_pairs.ensures (λ m h. both c.args.row c.args.mirror _ _ c.if-mirror-row.false)
 
 pub returns : goal.returns
 returns c =

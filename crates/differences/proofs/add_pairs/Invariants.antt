@@ -6,7 +6,8 @@ use Rattle.differences.proofs.add_pairs.Given as goal
 
 abbrev pub invariant-loop-column : goal.invariant-loop-column
 invariant-loop-column l =
-    Adding (λ m. row_squares l.first_row l.second l.second_strides l.row m + row_squares l.first_mirror l.second l.second_strides l.mirror m)
+    Adding (λ m. row_squares l.first_row l.second l.second_strides l.row m
+    + row_squares l.first_mirror l.second l.second_strides l.mirror m)
     l.initial.squares l.squares l.column
 
 abbrev pub decreases-loop-column : goal.decreases-loop-column

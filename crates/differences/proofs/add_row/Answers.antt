@@ -38,7 +38,8 @@ add_rows-requires c =
     (p.1.strided.size-most, p.0, scored-row p.1 q.0 c.unbroken_row.ensures, q.1)
 
 -- back: the row that runs ahead
-mirrored-is : {A : ℕ} {plane : List ℕ} {s r : Strides} → ScoredFace A plane s → 1 ≤ A → r ≡ mirrored A s → ScoredFace A plane r
+mirrored-is : {A : ℕ} {plane : List ℕ} {s r : Strides} → ScoredFace A plane s → 1 ≤ A → r ≡ mirrored A s
+    → ScoredFace A plane r
 mirrored-is {A} {plane} f h e = subst (ScoredFace A plane) (sym e) (mirrored-face f h)
 
 pub returns-then-column_stride : goal.returns-then-column_stride
@@ -53,7 +54,8 @@ pub unbroken_row-requires-then-column_stride : goal.unbroken_row-requires-then-c
 unbroken_row-requires-then-column_stride c =
     let p = c.requires.scored.1 in (
       (mirrored-is p (omega arith) c.mirrored-mirrored.ensures).strided,
-      ap (λ t. t.column) c.mirrored-mirrored.ensures ∙ ap neg_ℤ (stride _ p.strided.leads.column-small c.if-column_stride.true),
+      ap (λ t. t.column) c.mirrored-mirrored.ensures
+          ∙ ap neg_ℤ (stride _ p.strided.leads.column-small c.if-column_stride.true),
       c.requires.within.0,
     )
 
@@ -63,6 +65,7 @@ add_rows_against-requires c =
     let q = c.requires.within in (
       p.1.strided.size-most,
       p.0,
-      scored-row (mirrored-is p.1 (omega arith) c.mirrored-mirrored.ensures) q.0 c.unbroken_row-then-column_stride.ensures,
+      scored-row (mirrored-is p.1 (omega arith) c.mirrored-mirrored.ensures) q.0
+          c.unbroken_row-then-column_stride.ensures,
       q.1,
     )

@@ -7,7 +7,8 @@ use Rattle.differences.proofs.add_rows_against.Given as goal
 
 abbrev pub invariant-loop-column : goal.invariant-loop-column
 invariant-loop-column l =
-    Adding (λ m. squared_difference (sample_at l.first m) (sample_at l.second (l.size - suc m))) l.initial.squares l.squares l.column
+    Adding (λ m. squared_difference (sample_at l.first m) (sample_at l.second (l.size - suc m)))
+    l.initial.squares l.squares l.column
 
 abbrev pub decreases-loop-column : goal.decreases-loop-column
 decreases-loop-column l = l.size - l.column

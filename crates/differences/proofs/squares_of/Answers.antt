@@ -47,6 +47,7 @@ loop-face-init c =
 pub add_face-requires : goal.add_face-requires
 add_face-requires c =
     let p = c.requires.scored in
+    let q = c.requires.within in
     let face : c.loop-face.face < 6 = omega arith in
     record {
       scored = (
@@ -54,7 +55,7 @@ add_face-requires c =
         ap (λ (t : Strides). t.column) c.strides_at-from.ensures ∙ p.2 _ face,
         subst (ScoredFace _ _) (sym c.strides_at-to.ensures) (scored-face p.1 _ face),
       );
-      within = (c.requires.within.0, c.requires.within.1, sums (goal.at.add_face-requires c).Start c.loop-face.invariant);
+      within = (q.0, q.1, sums (goal.at.add_face-requires c).Start c.loop-face.invariant);
     }
 
 pub loop-face-preserved : goal.loop-face-preserved

@@ -17,7 +17,8 @@ pub record FacesAdded (size : ℕ) (more : ℕ → ℕ → ℕ) (before squares 
 
 abbrev pub invariant-loop-face : goal.invariant-loop-face
 invariant-loop-face l =
-    FacesAdded l.size (λ m f. both_terms (λ n. term l.first l.first_strides l.second l.second_strides m n f) l.row l.mirror)
+    FacesAdded l.size
+    (λ m f. both_terms (λ n. term l.first l.first_strides l.second l.second_strides m n f) l.row l.mirror)
     l.initial.squares l.squares l.face
 
 abbrev pub decreases-loop-face : goal.decreases-loop-face

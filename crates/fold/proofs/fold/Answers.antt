@@ -25,7 +25,8 @@ answered c =
 
 pub returns-in-Refused : goal.returns-in-Refused
 returns-in-Refused c =
-    refused-gives c.in-Refused.refused _ (told (answered (goal.at.returns-in-Refused c).After-ask-a12) c.in-Refused.is) ∙ fold_is _ _
+    let d = (goal.at.returns-in-Refused c).After-ask-a12 in
+    refused-gives c.in-Refused.refused _ (told (answered d) c.in-Refused.is) ∙ fold_is _ _
 
 pub returns-in-Accepted : goal.returns-in-Accepted
 returns-in-Accepted c =

@@ -16,8 +16,8 @@ use borrow.Author.Rules.{rules}
 use Rattle.listing.proofs.list.Goals as goal
 
 -- the whole listing at the start of the buffer, with the rest of it as it was
-whole : (input before after : List ℕ) (r : ℕ) → length (listing input) ≤ length before → Put before 0 (listing input) r after
-    → ListingPromise input before r input after
+whole : (input before after : List ℕ) (r : ℕ) → length (listing input) ≤ length before
+    → Put before 0 (listing input) r after → ListingPromise input before r input after
 whole input before after r h p = record {
   counts = p.ends ∙ zero-add (length (listing input));
   holds = p.holds ∙ sets-eq (listing input) before 0 (rw (zero-add (length (listing input))) h)
@@ -30,11 +30,13 @@ module _ (input b : List ℕ) (counts : take 65536 input ≡ b) where
   parts : listing input ≡ header ++ lines_from 0 b
   parts = listing-lines input ∙ ap (λ b. header ++ lines_from 0 b) counts
 
-  module _ {text between : List ℕ} {at : ℕ} (fits : length (listing input) ≤ length text) (p : Put text 0 header at between) where
+  module _ {text between : List ℕ} {at : ℕ} (fits : length (listing input) ≤ length text)
+      (p : Put text 0 header at between) where
     lines-room : at + length (lines_from 0 b) ≤ length between
     lines-room = room-then header (lines_from 0 b) p (room-is _ _ parts (omega (arith, fits)))
 
-    promised : {r : ℕ} {after : List ℕ} → Put between at (lines_from 0 b) r after → ListingPromise input text r input after
+    promised : {r : ℕ} {after : List ℕ} → Put between at (lines_from 0 b) r after
+        → ListingPromise input text r input after
     promised q = whole input text _ _ fits (put_is (sym parts) (put_then header (lines_from 0 b) p q))
 
 -- an input within the limit counts whole
@@ -51,10 +53,12 @@ pub returns-then-input-le-LIMIT : goal.returns-then-input-le-LIMIT
 returns-then-input-le-LIMIT c =
     let input = c.args.input.now in
     let l = listing-length input in
-    promised input input (short input c.if-input-le-LIMIT.true) (search rules) c.put_bytes-lines.ensures c.put_lines.ensures
+    promised input input (short input c.if-input-le-LIMIT.true) (search rules)
+    c.put_bytes-lines.ensures c.put_lines.ensures
 
 pub slice_bounds-put_lines-end-else-input-le-LIMIT-2 : goal.slice_bounds-put_lines-end-else-input-le-LIMIT-2
-slice_bounds-put_lines-end-else-input-le-LIMIT-2 c = sym (length-take-le 65536 c.args.input.now (omega (arith, c.if-input-le-LIMIT.false)))
+slice_bounds-put_lines-end-else-input-le-LIMIT-2 c =
+    sym (length-take-le 65536 c.args.input.now (omega (arith, c.if-input-le-LIMIT.false)))
 
 pub put_lines-requires-else-input-le-LIMIT : goal.put_lines-requires-else-input-le-LIMIT
 put_lines-requires-else-input-le-LIMIT c =
@@ -66,4 +70,5 @@ pub returns-else-input-le-LIMIT : goal.returns-else-input-le-LIMIT
 returns-else-input-le-LIMIT c =
     let input = c.args.input.now in
     let l = listing-length input in
-    promised input (take 65536 input) refl (search rules) c.put_bytes-lines.ensures c.put_lines-else-input-le-LIMIT.ensures
+    promised input (take 65536 input) refl (search rules)
+    c.put_bytes-lines.ensures c.put_lines-else-input-le-LIMIT.ensures

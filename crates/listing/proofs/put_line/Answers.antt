@@ -39,7 +39,8 @@ put_refused-requires c =
 pub returns-in-At : goal.returns-in-At
 returns-in-At c =
     put_is (sym (located-line c.args.k c.in-At.is))
-    (put_then (decimal (pos c.args.k)) (spaced (look_up_values c.in-At.p)) c.put_decimal-number.ensures c.put_located.ensures)
+    (put_then (decimal (pos c.args.k)) (spaced (look_up_values c.in-At.p)) c.put_decimal-number.ensures
+    c.put_located.ensures)
 
 pub returns-in-Refused : goal.returns-in-Refused
 returns-in-Refused c =

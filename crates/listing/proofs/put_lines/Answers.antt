@@ -1,4 +1,5 @@
--- `put_lines` meets its contract: after each record its line stands behind those before it, and the lines of the rest are left.
+-- `put_lines` meets its contract: after each record its line stands behind those before it, and the lines of the rest
+-- are left.
 use mathlib.Core.Path.{◌≡◌, sym, ◌∙◌, ap}
 use mathlib.Core.List.{List}
 use Prim.Native.Nat.{ℕ, ◌-◌}
@@ -39,7 +40,8 @@ put_line-end-requires c =
 pub overflow_add-from : goal.overflow_add-from
 overflow_add-from c =
     let input = c.args.input.now in
-    let within = not_beyond input c.loop-from.invariant c.loop-from-test.true (length-is input _ c.length_of-from.ensures) in
+    let e = length-is input _ c.length_of-from.ensures in
+    let within = not_beyond input c.loop-from.invariant c.loop-from-test.true e in
     search rules
 
 pub overflow_add-k : goal.overflow_add-k

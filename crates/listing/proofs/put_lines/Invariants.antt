@@ -1,4 +1,5 @@
--- `put_lines` meets its contract: after each record its line stands behind those before it, and the lines of the rest are left.
+-- `put_lines` meets its contract: after each record its line stands behind those before it, and the lines of the rest
+-- are left.
 use Prim.Native.Nat.{◌-◌}
 use lib.ListN.{length}
 use Rattle.listing.proofs.Progress.{Progress}

@@ -34,13 +34,15 @@ put_spaced-column-requires c =
 pub put_spaced_signed-row-requires : goal.put_spaced_signed-row-requires
 put_spaced_signed-row-requires c =
     let p = c.args.p in
-    let room = room-then (face p) (behind_face p) c.put_spaced-column.ensures (room-is _ _ (located-text p) c.requires) in
+    let line = room-is _ _ (located-text p) c.requires in
+    let room = room-then (face p) (behind_face p) c.put_spaced-column.ensures line in
     room-read behind_space p.column (search rules) _ _ (room-first _ _ (column p) (behind_column p) room)
 
 pub put_spaced_signed-end-requires : goal.put_spaced_signed-end-requires
 put_spaced_signed-end-requires c =
     let p = c.args.p in
-    let room = room-then (face p) (behind_face p) c.put_spaced-column.ensures (room-is _ _ (located-text p) c.requires) in
+    let line = room-is _ _ (located-text p) c.requires in
+    let room = room-then (face p) (behind_face p) c.put_spaced-column.ensures line in
     let put-column = put-read behind_space p.column (search rules) c.put_spaced_signed-row.ensures in
     room-read behind_space p.row (search rules) _ _
     (room-first _ _ (row p) line_end (room-then (column p) (behind_column p) put-column room))
@@ -48,7 +50,8 @@ put_spaced_signed-end-requires c =
 pub put_byte-requires : goal.put_byte-requires
 put_byte-requires c =
     let p = c.args.p in
-    let room = room-then (face p) (behind_face p) c.put_spaced-column.ensures (room-is _ _ (located-text p) c.requires) in
+    let line = room-is _ _ (located-text p) c.requires in
+    let room = room-then (face p) (behind_face p) c.put_spaced-column.ensures line in
     let put-column = put-read behind_space p.column (search rules) c.put_spaced_signed-row.ensures in
     let put-row = put-read behind_space p.row (search rules) c.put_spaced_signed-end.ensures in
     room-then (row p) line_end put-row (room-then (column p) (behind_column p) put-column room)

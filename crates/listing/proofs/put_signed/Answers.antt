@@ -40,7 +40,8 @@ returns-then-z-lt0 c =
     (put_then (45 ∷ []) (decimal (pos n)) c.put_byte-digits.ensures c.put_decimal.ensures)
 
 pub put_decimal-requires-2 : goal.put_decimal-requires-2
-put_decimal-requires-2 c = room-is _ _ (above c.args.z _ c.ranges.z c.magnitude-size.ensures c.if-z-lt0.false) c.requires
+put_decimal-requires-2 c =
+    room-is _ _ (above c.args.z _ c.ranges.z c.magnitude-size.ensures c.if-z-lt0.false) c.requires
 
 pub returns : goal.returns
 returns c = put_is (sym (above c.args.z _ c.ranges.z c.magnitude-size.ensures c.if-z-lt0.false)) c.put_decimal-2.ensures

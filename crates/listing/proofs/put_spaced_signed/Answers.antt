@@ -7,7 +7,8 @@ use Rattle.listing.proofs.put_spaced_signed.Goals as goal
 
 pub put_signed-requires : goal.put_signed-requires
 put_signed-requires c =
-    room-read decimal c.args.z (search rules) _ _ (room-then (32 ∷ []) (decimal c.args.z) c.put_byte-number.ensures c.requires)
+    room-read decimal c.args.z (search rules) _ _
+    (room-then (32 ∷ []) (decimal c.args.z) c.put_byte-number.ensures c.requires)
 
 pub returns : goal.returns
 returns c =

@@ -13,7 +13,8 @@ use Rattle.strides.specs.declared.Strides.{Strides}
 use Rattle.strides.specs.FaceStrides.{mirrored, runs_ahead}
 use Rattle.strides.proofs.ahead.Goals as goal
 
-tested : {b : Bool} (g : Strides) → SFits w64 g.column → lt_z (pos 0) (to_z w64 (of_z w64 g.column)) ≡ b → runs_ahead g ≡ b
+tested : {b : Bool} (g : Strides) → SFits w64 g.column → lt_z (pos 0) (to_z w64 (of_z w64 g.column)) ≡ b
+    → runs_ahead g ≡ b
 tested g f e = tests-positive (to_z-of_z f) e
 
 pub returns-then-column_stride-gt0 : goal.returns-then-column_stride-gt0

@@ -12,7 +12,8 @@ loop-face-init c = filled_none _ _ refl
 
 pub aligned-strides-requires : goal.aligned-strides-requires
 aligned-strides-requires c =
-    (c.requires.0, c.requires.1, subst (FaceLeads c.args.size) (sym c.strides_at-in-loop-face.ensures) (c.requires.2 _ (omega arith)))
+    let leads = c.requires.2 c.loop-face.face (omega arith) in
+    (c.requires.0, c.requires.1, subst (FaceLeads c.args.size) (sym c.strides_at-in-loop-face.ensures) leads)
 
 pub loop-face-preserved : goal.loop-face-preserved
 loop-face-preserved c =

@@ -30,21 +30,28 @@ h {s} p = record {
 
 pub returns : goal.returns
 returns c =
-    ap nat_abs (add (add (h c.requires).base (mul (h c.requires).column (h c.requires).column-stride tt) tt) (mul (h c.requires).row (h c.requires).row-stride tt) tt).is
+    let n = h c.requires in
+    ap nat_abs (add (add n.base (mul n.column n.column-stride tt) tt) (mul n.row n.row-stride tt) tt).is
     ∙ nat_abs-natural (index_by c.args.strides c.args.column c.args.row) c.requires.not-below-0
 
 pub overflow_mul-result : goal.overflow_mul-result
 overflow_mul-result c = mul_ok (h c.requires).column (h c.requires).column-stride tt
 
 pub overflow_add-result : goal.overflow_add-result
-overflow_add-result c = add_ok (h c.requires).base (mul (h c.requires).column (h c.requires).column-stride tt) tt
+overflow_add-result c =
+    let n = h c.requires in
+    add_ok n.base (mul n.column n.column-stride tt) tt
 
 pub overflow_mul-result-2 : goal.overflow_mul-result-2
 overflow_mul-result-2 c = mul_ok (h c.requires).row (h c.requires).row-stride tt
 
 pub overflow_add-result-2 : goal.overflow_add-result-2
-overflow_add-result-2 c = add_ok (add (h c.requires).base (mul (h c.requires).column (h c.requires).column-stride tt) tt) (mul (h c.requires).row (h c.requires).row-stride tt) tt
+overflow_add-result-2 c =
+    let n = h c.requires in
+    add_ok (add n.base (mul n.column n.column-stride tt) tt) (mul n.row n.row-stride tt) tt
 
 pub overflow_cast-result-3 : goal.overflow_cast-result-3
 overflow_cast-result-3 c =
-    cast_ok (add (add (h c.requires).base (mul (h c.requires).column (h c.requires).column-stride tt) tt) (mul (h c.requires).row (h c.requires).row-stride tt) tt) tt c.requires.not-below-0
+    let n = h c.requires in
+    cast_ok (add (add n.base (mul n.column n.column-stride tt) tt) (mul n.row n.row-stride tt) tt) tt
+    c.requires.not-below-0

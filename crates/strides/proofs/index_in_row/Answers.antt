@@ -1,4 +1,5 @@
--- `index_in_row` meets its contract: base and row stride fit 32 bits, and so does each sum; the column stride is 1 or −1.
+-- `index_in_row` meets its contract: base and row stride fit 32 bits, and so does each sum; the column stride is 1 or
+-- −1.
 use mathlib.Core.Path.{◌≡◌, sym, ◌∙◌, ap, subst}
 use mathlib.Core.List.{[], ◌∷◌}
 use Prim.Native.Nat.{ℕ}
@@ -9,7 +10,8 @@ use lib.Signed.{non_neg}
 use mir.Syntax.{w32, w64}
 use mir.Val.{to_z, of_z}
 use Rattle.arithmetic.proofs.Sizes.{nat_abs-natural}
-use Rattle.arithmetic.proofs.Narrow.{Narrow, narrow-ok, narrow, narrow-nat, mul_ok, mul, add_ok, add, sub-ok, sub, cast_ok}
+use Rattle.arithmetic.proofs.Narrow.{Narrow, narrow-ok, narrow, narrow-nat}
+use Rattle.arithmetic.proofs.Narrow.{mul_ok, mul, add_ok, add, sub-ok, sub, cast_ok}
 use Rattle.arithmetic.proofs.Ring.{var, con, ◌⊕◌, ◌⊗◌, ◌⊝◌, ⊖, solve}
 use Rattle.strides.specs.declared.Strides.{Strides}
 use Rattle.strides.specs.FaceStrides.{index_by, Contiguous, Askable}
@@ -37,19 +39,22 @@ module _ {s : Strides} {m n : ℕ} (r : Askable s m n × Contiguous s) where
 
   back_is : (of_z w64 s.column ≡ 1 → ⊥) → s.base -ℤ pos m +ℤ pos n *ℤ s.row ≡ index_by s m n
   back_is f =
-      solve (s.base ∷ pos m ∷ (pos n *ℤ s.row) ∷ []) (var 0 ⊝ var 1 ⊕ var 2) (var 0 ⊕ var 1 ⊗ ⊖ (con (pos 1)) ⊕ var 2) tt
+      solve (s.base ∷ pos m ∷ (pos n *ℤ s.row) ∷ [])
+      (var 0 ⊝ var 1 ⊕ var 2) (var 0 ⊕ var 1 ⊗ ⊖ (con (pos 1)) ⊕ var 2) tt
       ∙ ap (λ z. s.base +ℤ pos m *ℤ z +ℤ pos n *ℤ s.row) (sym (stride_back s r.1 f))
 
 pub returns-then-strides-eq1 : goal.returns-then-strides-eq1
 returns-then-strides-eq1 c =
     let r = c.requires in
-    ap nat_abs ((add (add (base r) (column r) tt) (mul (row r) (row-stride r) tt) tt).is ∙ ahead-is r c.if-strides-eq1.true)
+    ap nat_abs
+    ((add (add (base r) (column r) tt) (mul (row r) (row-stride r) tt) tt).is ∙ ahead-is r c.if-strides-eq1.true)
     ∙ nat_abs-natural (index_by c.args.strides c.args.column c.args.row) r.0.not-below-0
 
 pub returns-else-strides-eq1 : goal.returns-else-strides-eq1
 returns-else-strides-eq1 c =
     let r = c.requires in
-    ap nat_abs ((add (sub (base r) (column r) tt) (mul (row r) (row-stride r) tt) tt).is ∙ back_is r c.if-strides-eq1.false)
+    ap nat_abs
+    ((add (sub (base r) (column r) tt) (mul (row r) (row-stride r) tt) tt).is ∙ back_is r c.if-strides-eq1.false)
     ∙ nat_abs-natural (index_by c.args.strides c.args.column c.args.row) r.0.not-below-0
 
 pub overflow_cast-base : goal.overflow_cast-base

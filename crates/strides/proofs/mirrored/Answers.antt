@@ -24,7 +24,9 @@ module _ {A : ℕ} {s : Strides} (r : (1 ≤ A) × (A ≤ 512) × FaceLeads A s)
   last = held-nat (omega (arith, r.1)) tt
 
 pub returns : goal.returns
-returns c = strides-eq (add (base c.requires) (mul (last c.requires) (column-stride c.requires) tt) tt).is (opposite (column-stride c.requires) tt).is
+returns c =
+    let r = c.requires in
+    strides-eq (add (base r) (mul (last r) (column-stride r) tt) tt).is (opposite (column-stride r) tt).is
     (to_z-of_z {w = w64} {z = c.args.strides.row} (search rules))
 
 pub overflow_mul-result : goal.overflow_mul-result

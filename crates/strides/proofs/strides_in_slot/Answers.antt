@@ -1,4 +1,5 @@
--- `strides_in_slot` meets its contract: the four ways that a slot is turned, and no number beyond the slot's last index.
+-- `strides_in_slot` meets its contract: the four ways that a slot is turned, and no number beyond the slot's last
+-- index.
 use mathlib.Core.Path.{◌≡◌, refl, sym, subst}
 use Prim.Native.Nat.{ℕ, ◌+◌, ◌*◌, ◌-◌, ◌/◌, ◌≤◌, ◌<◌}
 use native.Mathlib.Nat.{mul-le-mul}
@@ -9,7 +10,8 @@ use mir.Val.{to_z}
 use Rattle.arithmetic.proofs.Held.{Held, held-nat, opposite-ok, opposite}
 use Rattle.cubemap.specs.Frames.{spot, quarter_turns, index_in_slot}
 use Rattle.strides.specs.FaceStrides.{StridesTo}
-use Rattle.strides.proofs.StrideIndices.{strides, same-strides, corner, last-below, strides-0, strides-1, strides-2, strides-3}
+use Rattle.strides.proofs.StrideIndices.{strides, same-strides, corner, last-below}
+use Rattle.strides.proofs.StrideIndices.{strides-0, strides-1, strides-2, strides-3}
 use Rattle.strides.proofs.strides_in_slot.Goals as goal
 
 module _ {A slot turns : ℕ} (r : (1 ≤ A) × (A ≤ 512) × (slot < 6) × (turns < 4)) where
@@ -32,21 +34,28 @@ module _ {A slot turns : ℕ} (r : (1 ≤ A) × (A ≤ 512) × (slot < 6) × (tu
       (same-strides p q r s)
 
 pub returns-in-0 : goal.returns-in-0
-returns-in-0 c = turned c.requires 0 (omega (arith, c.in-0)) (read c.requires _ (omega (arith, last c.requires))) refl (width c.requires).is
-    (strides-0 _ _ c.requires.0 c.requires.1 c.requires.2)
+returns-in-0 c =
+    let r = c.requires in
+    turned r 0 (omega (arith, c.in-0)) (read r _ (omega (arith, last r))) refl (width r).is
+    (strides-0 _ _ r.0 r.1 r.2)
 
 pub returns-in-1 : goal.returns-in-1
-returns-in-1 c = turned c.requires 1 (omega (arith, c.in-1)) (read c.requires _ (omega (arith, last c.requires))) (width c.requires).is refl
-    (strides-1 _ _ c.requires.0 c.requires.1 c.requires.2)
+returns-in-1 c =
+    let r = c.requires in
+    turned r 1 (omega (arith, c.in-1)) (read r _ (omega (arith, last r))) (width r).is refl
+    (strides-1 _ _ r.0 r.1 r.2)
 
 pub returns-in-2 : goal.returns-in-2
-returns-in-2 c = turned c.requires 2 (omega (arith, c.in-2)) (read c.requires _ (last c.requires)) refl (opposite (width c.requires) tt).is
-    (strides-2 _ _ c.requires.0 c.requires.1 c.requires.2)
+returns-in-2 c =
+    let r = c.requires in
+    turned r 2 (omega (arith, c.in-2)) (read r _ (last r)) refl (opposite (width r) tt).is
+    (strides-2 _ _ r.0 r.1 r.2)
 
 pub returns-in_default : goal.returns-in_default
 returns-in_default c =
-    turned c.requires 3 (omega arith) (read c.requires _ (omega (arith, last c.requires))) (opposite (width c.requires) tt).is refl
-    (strides-3 _ _ c.requires.0 c.requires.1 c.requires.2)
+    let r = c.requires in
+    turned r 3 (omega arith) (read r _ (omega (arith, last r))) (opposite (width r) tt).is refl
+    (strides-3 _ _ r.0 r.1 r.2)
 
 pub overflow_mul-corner : goal.overflow_mul-corner
 overflow_mul-corner c = omega (arith, mul-le-mul {n₁ = c.args.slot / 3} {n₂ = 1} {m₂ = 512} (omega arith) c.requires.1)

@@ -6,35 +6,29 @@ use Rattle.cubemap.specs.Frames.{layout_bytes, quarter_turns_in, slot_of, spot, 
 use Rattle.cubemap.proofs.Layouts.{LayoutHolds, layout-holds}
 use Rattle.cubemap.proofs.Indices.{index_is}
 use Rattle.strides.proofs.StrideIndices.{strides-cong}
-use Rattle.strides.proofs.strides_of.Goals.{Start}
 use Rattle.strides.proofs.strides_of.Goals as goal
 
-module _ (c : Start) where
-  abbrev L : List ℕ
-  L = layout_bytes c.args.layout
-
-  holds : LayoutHolds L
-  holds = layout-holds L c.requires.2
-
-  slot-below : (slot : ℕ) → slot ≡ slot_of L c.args.face → slot < 6
-  slot-below slot e = subst (λ k. k < 6) (sym e) (holds.slot-below c.args.face c.requires.3)
+-- each slot of a layout that holds a face is one of the six
+slot-below : {L : List ℕ} {face slot : ℕ} → LayoutHolds L → face < 6 → slot ≡ slot_of L face → slot < 6
+slot-below {face = face} h f e = subst (λ k. k < 6) (sym e) (h.slot-below face f)
 
 pub returns : goal.returns
 returns c =
-    let start = (goal.at.returns c).Start in
+    let size = c.args.size in
+    let L = layout_bytes c.args.layout in
     let slot_is = c.slot_of-slot.ensures.0 in
-    strides-cong
-    (λ m n p q.
-    ap₂ (λ k t. index_in_slot start.args.size k (quarter_turns start.args.size t (spot m n))) slot_is
-    (c.turns_in.ensures ∙ ap (quarter_turns_in (L start)) slot_is)
-    ∙ index_is start.args.size (L start) start.args.face m n)
+    strides-cong (λ m n p q.
+    ap₂ (λ k t. index_in_slot size k (quarter_turns size t (spot m n)))
+    slot_is (c.turns_in.ensures ∙ ap (quarter_turns_in L) slot_is)
+    ∙ index_is size L c.args.face m n)
     c.strides_in_slot.ensures
 
 pub turns_in-requires : goal.turns_in-requires
-turns_in-requires c = slot-below (goal.at.turns_in-requires c).Start _ c.slot_of-slot.ensures.0
+turns_in-requires c = slot-below (layout-holds _ c.requires.2) c.requires.3 c.slot_of-slot.ensures.0
 
 pub strides_in_slot-requires : goal.strides_in_slot-requires
 strides_in_slot-requires c =
-    let start = (goal.at.strides_in_slot-requires c).Start in
-    let slot : c.slot_of-slot.result < 6 = slot-below start _ c.slot_of-slot.ensures.0 in
-    (start.requires.0, start.requires.1, slot, subst (λ t. t < 4) (sym c.turns_in.ensures) ((holds start).turns-below _ slot))
+    let r = c.requires in
+    let holds = layout-holds (layout_bytes c.args.layout) r.2 in
+    let slot = slot-below holds r.3 c.slot_of-slot.ensures.0 in
+    (r.0, r.1, slot, subst (λ t. t < 4) (sym c.turns_in.ensures) (holds.turns-below _ slot))
