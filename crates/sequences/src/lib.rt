@@ -24,7 +24,7 @@ fn turn(
     target: &mut [u8],
 ) -> u64
     ensures { ConvertPromise (turn_call shape sampler layout.now t source.now target.old result
-        layout.now source.now target.new) }
+        layout.exit.now source.exit.now target.new) }
 {
     welchodrys::welchodrys_convert(
         shape.size,
@@ -57,7 +57,7 @@ pub fn turn_twice(
 ) -> Codes
     ensures { TurnedTwice shape sampler layout.now first later
         source.now middle.old target.old result
-        layout.now source.now middle.new target.new }
+        layout.exit.now source.exit.now middle.new target.new }
 {
     let first_code = turn(shape, sampler, layout, first, source, middle);
     if first_code == 0 {

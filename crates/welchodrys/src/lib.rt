@@ -31,7 +31,7 @@ pub fn welchodrys_convert(
         (convert_settings (shape_of source_size depth source_format) target_size target_format sampler
         source_layout.now target_layout.now (rotation e0 e1 e2 e3))
         source.now target.old result
-        source_layout.now target_layout.now source.now target.new) }
+        source_layout.exit.now target_layout.exit.now source.exit.now target.new) }
 {
     let shape = Shape {
         size: source_size,
@@ -75,7 +75,7 @@ pub fn welchodrys_score(
     ensures { ScorePromise (score_call
         (score_settings (shape_of size depth format) first_layout.now second_layout.now)
         first.now second.now answer.old result
-        first_layout.now second_layout.now first.now second.now answer.new) }
+        first_layout.exit.now second_layout.exit.now first.exit.now second.exit.now answer.new) }
 {
     let shape = Shape {
         size: size,
