@@ -1,6 +1,6 @@
-# `make` proves the crates, builds the archive and the program `rays`, runs the C examples and the program, and shows the
-# marked cases; `make install PREFIX=..` puts archive, header and a pkg-config file in place; `make test` is what .ci/run
-# calls; `make bench` measures a conversion and a score.
+# `make` proves the crates, builds the archive and the program `rays`, runs the C examples and the program, and shows
+# the marked cases; `make install PREFIX=..` puts archive, header and a pkg-config file in place; `make test` is what
+# .ci/run calls; `make bench` measures a conversion and a score.
 .PHONY: all install test clean tools verdict prove archive program example listing reference replay stack modes \
     instructions conformance messages valgrind outside marked bench
 # One step after the other, in the order in which a target names them.
@@ -19,8 +19,8 @@ TURN = examples/turn.c examples/answers.c examples/frame.c examples/pgm.c exampl
 
 all: tools prove example listing marked
 
-# `rt ci` proves everything, tries the must-fail edits and runs the programs; the steps behind it use what it proved. Its
-# last line, 'N passed, 0 failed', is printed last: where a step in between fails, it is not printed.
+# `rt ci` proves everything, tries the must-fail edits and runs the programs; the steps behind it use what it proved.
+# Its last line, 'N passed, 0 failed', is printed last: where a step in between fails, it is not printed.
 test: TOOLS += cargo nm objdump pkg-config size valgrind
 test: tools marked verdict reference replay stack modes instructions conformance example messages valgrind outside \
     listing
@@ -30,8 +30,8 @@ tools:
 	@command -v rt >/dev/null || { echo "make: the Rattle toolchain (its command rt) is not on the PATH"; exit 1; }
 	@for tool in $(TOOLS); do command -v $$tool >/dev/null || { echo "make: $$tool is not on the PATH"; exit 1; }; done
 
-# It fails, too, where a must-fail edit says nothing, since its text does not stand or does not compile: `rt ci` calls such
-# an edit bad, and passes.
+# It fails, too, where a must-fail edit says nothing, since its text does not stand or does not compile: `rt ci` calls
+# such an edit bad, and passes.
 verdict:
 	@mkdir -p build
 	@echo "Proving every crate, and trying the must-fail edits .."

@@ -1,5 +1,5 @@
-// The five calls: numbers and lent buffers go in, a code and bytes come out. Each is thin over the function that does the work. The crate
-// welchodrys_c exports them to C.
+// The five calls: numbers and lent buffers go in, a code and bytes come out. Each is thin over the function that does
+// the work. The crate welchodrys_c exports them to C.
 #![tactic(auto)]
 
 ghost use Rattle.cubemap.specs.PlaceToRay.{ray};

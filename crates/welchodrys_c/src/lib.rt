@@ -1,4 +1,5 @@
-// What C calls: each call of the crate welchodrys under its own name, with the same promise. A slice comes from C as a pointer and a length.
+// What C calls: each call of the crate welchodrys under its own name, with the same promise. A slice comes from C as a
+// pointer and a length.
 #![tactic(auto)]
 
 ghost use Rattle.cubemap.specs.PlaceToRay.{ray};

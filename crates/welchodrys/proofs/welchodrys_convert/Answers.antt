@@ -38,7 +38,8 @@ module _ (d : After-convert-converted) where
 
 pub returns-in-Accepted : goal.returns-in-Accepted
 returns-in-Accepted c = record {
-  gives = gives (goal.at.returns-in-Accepted c).After-convert-converted Converted.Accepted 0 (sym c.in-Accepted.is) refl;
+  gives = gives (goal.at.returns-in-Accepted c).After-convert-converted Converted.Accepted 0
+      (sym c.in-Accepted.is) refl;
   source_stays = refl;
   source-layout-stays = refl;
   target-layout-stays = refl;
@@ -46,8 +47,8 @@ returns-in-Accepted c = record {
 
 pub returns-in-Refused : goal.returns-in-Refused
 returns-in-Refused c = record {
-  gives = gives (goal.at.returns-in-Refused c).After-convert-converted (Converted.Refused c.in-Refused.r) c.refusal_code.result
-      (sym c.in-Refused.is) c.refusal_code.ensures;
+  gives = gives (goal.at.returns-in-Refused c).After-convert-converted (Converted.Refused c.in-Refused.r)
+      c.refusal_code.result (sym c.in-Refused.is) c.refusal_code.ensures;
   source_stays = refl;
   source-layout-stays = refl;
   target-layout-stays = refl;

@@ -16,7 +16,9 @@ returns-in-Refused c =
     ≡ equal_result (rotation a.first0 a.first1 a.first2 a.first3) (rotation a.second0 a.second1 a.second2 a.second3) =
     c.equal-compared.ensures
     ∙ ap₂ equal_result
-    (rotation-eq (to_z-of_z {w = w64} s.first0) (to_z-of_z {w = w64} s.first1) (to_z-of_z {w = w64} s.first2) (to_z-of_z {w = w64} s.first3))
-    (rotation-eq (to_z-of_z {w = w64} s.second0) (to_z-of_z {w = w64} s.second1) (to_z-of_z {w = w64} s.second2) (to_z-of_z {w = w64} s.second3)) in
+    (rotation-eq (to_z-of_z {w = w64} s.first0) (to_z-of_z {w = w64} s.first1) (to_z-of_z {w = w64} s.first2)
+    (to_z-of_z {w = w64} s.first3))
+    (rotation-eq (to_z-of_z {w = w64} s.second0) (to_z-of_z {w = w64} s.second1) (to_z-of_z {w = w64} s.second2)
+    (to_z-of_z {w = w64} s.second3)) in
     gives-refused _ _ _ c.in-Refused.r c.refusal_code.result (ap compared_means (sym c.in-Refused.is) ∙ found-is)
     c.refusal_code.ensures refl

@@ -16,7 +16,9 @@ returns-in-Refused c =
     ≡ fold_result (rotation a.first0 a.first1 a.first2 a.first3) (rotation a.later0 a.later1 a.later2 a.later3) =
     c.fold-folded.ensures
     ∙ ap₂ fold_result
-    (rotation-eq (to_z-of_z {w = w64} s.first0) (to_z-of_z {w = w64} s.first1) (to_z-of_z {w = w64} s.first2) (to_z-of_z {w = w64} s.first3))
-    (rotation-eq (to_z-of_z {w = w64} s.later0) (to_z-of_z {w = w64} s.later1) (to_z-of_z {w = w64} s.later2) (to_z-of_z {w = w64} s.later3)) in
+    (rotation-eq (to_z-of_z {w = w64} s.first0) (to_z-of_z {w = w64} s.first1) (to_z-of_z {w = w64} s.first2)
+    (to_z-of_z {w = w64} s.first3))
+    (rotation-eq (to_z-of_z {w = w64} s.later0) (to_z-of_z {w = w64} s.later1) (to_z-of_z {w = w64} s.later2)
+    (to_z-of_z {w = w64} s.later3)) in
     gives-refused _ _ _ c.in-Refused.r c.refusal_code.result (ap folded_means (sym c.in-Refused.is) ∙ found-is)
     c.refusal_code.ensures refl
