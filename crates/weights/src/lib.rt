@@ -49,7 +49,7 @@ fn test_of(limit: u64, k: u64) -> WeightTest
     }
 }
 
-// W².K³, divided by 2^30 and rounded up.
+// W²·K³, divided by 2^30 and rounded up.
 fn left_side(test: WeightTest, w: u64) -> u64
     requires { Bounds test × (w ≤ 65538) }
     ensures { result ≡ (left_side test w + 1073741823) / 1073741824 }
@@ -146,7 +146,7 @@ fn less(x: u64, y: u64) -> u64
     if y <= x { x - y } else { 0 }
 }
 
-// A guess from the weight W itself: how far the limit is beyond W².K³, as a part of the way to (W + 1)²·K³.
+// A guess from the weight W itself: how far the limit is beyond W²·K³, as a part of the way to (W + 1)²·K³.
 // (2^46 is 70,368,744,177,664.)
 fn guess_at(test: WeightTest, w: u64) -> u64
     requires { Bounds test × (w ≤ 65536) }
