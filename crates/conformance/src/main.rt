@@ -1,4 +1,4 @@
-// Runs a fixed list of conversions through the exported calls, scores the source against each target, and prints a line for each, so that what the
+// Runs a fixed list of conversions through the five calls, scores the source against each target, and prints a line for each, so that what the
 // part gives can be compared byte by byte with what a program that was written from the paper gives. The conversions try each number of a call at the
 // ends of its range and beyond them, each layout with each, whole-cube turns, and damaged buffers. Six calls of fold, equal and look_up follow: with
 // two parameters of such a call exchanged, another text is printed.
