@@ -3,8 +3,9 @@
 
 usage: tools/respell.py [FOLDER]
 
-Run it once, right after the kit's port.py, at the top of the repository or with its folder. It rewrites src/, specs/ and proofs/ of
-every crate in place. Functions of src/, types, modules, strings and outputs keep their names, since none of them is in mixed case.
+Run it once, right after the kit's port.py, at the top of the repository or with its folder. It rewrites src/, specs/
+and proofs/ of every crate in place. Functions of src/, types, modules, strings and outputs keep their names, since none
+of them is in mixed case.
 """
 
 import os
@@ -16,7 +17,7 @@ PART = re.compile(r"(?<![\w'])[a-z][\w']*")
 HUMP = re.compile(r"(?<=[a-z0-9'])([A-Z]+)")
 STRING = re.compile(r'("(?:\\.|[^"\\])*")')
 
-# A lemma that would fall together with a definition that its file names: the file, the lemma, and the name that it gets.
+# A lemma that would fall together with a definition that its file names: the file, the lemma, and its new name.
 APART = [("crates/stretches/proofs/Walking.antt", "walk_at", "walk_along")]
 
 
