@@ -1,20 +1,16 @@
 -- The brackets: T + 32 lies between two numbers, and where these have one quotient by 2^48, that is it.
 use mathlib.Core.Path.{◌≡◌, ◌∙◌, ap, ap₂}
-use mathlib.Core.List.{List}
 use Prim.Native.Nat.{ℕ, suc, ◌+◌, ◌*◌, ◌-◌, ◌/◌, ◌%◌, ◌≤◌, ◌<◌}
 use native.Mathlib.Nat.{div-add-mod', div-eq_of_lt-le, mul-pos, mul-le-mul_left, mul-le-mul_right, le_of_mul-le-mul_right}
 use native.Mathlib.Omega.{arith}
 use lib.IntN.{ℤ, pos, nat_abs, ◌-ℤ◌}
-use lib.ListN.{get_or}
 use Rattle.arithmetic.proofs.Sizes.{Difference, below, above, difference-cases, difference-small, pos-sub}
 use Rattle.cubemap.specs.declared.Format.{Format}
 use Rattle.cubemap.specs.RayToPlace.{position64}
 use Rattle.cubemap.proofs.Curves.{bent, bent-most}
 use Rattle.cubemap.proofs.Positions.{acp_lift, acp_lifted, position-acp-lifted}
-use Rattle.reciprocals.specs.Reciprocals.{Reciprocal}
-use Rattle.adjusted.specs.declared.Bend.{Bend}
-use Rattle.adjusted.specs.Adjusted.{AdjustedStretch}
-use Rattle.adjusted.specs.Bends.{Factors, PartNear, BendOf}
+use Rattle.adjusted.specs.Adjusted.{Column}
+use Rattle.adjusted.specs.Bends.{PartNear, BendOf}
 
 -- T + 32, on a scale of 2^48, lies between v and v + slack
 record Bracket (A : ℕ) (x : ℤ) (d slack v : ℕ) : Type 0 where
@@ -68,33 +64,9 @@ module _ (s d k : ℕ) where
 
 -- ---- a column
 
--- its sum s, its distance d, and the reciprocal of that
-pub record Column (shift s d r : ℕ) : Type 0 where
-  pub positive : 0 < d
-  pub bounded : d ≤ 536870911
-  pub ratio : s ≤ 2 * d
-  pub reciprocal : Reciprocal shift d r
-
-pub column-of : {A shift from to j : ℕ} {sums distances reciprocals : List ℕ}
-    → AdjustedStretch A shift sums distances reciprocals from to → from ≤ j → j < to
-    → Column shift (get_or sums j 0) (get_or distances j 0) (get_or reciprocals j 0)
-column-of {j = j} s h l = record {
-  positive = s.has-distances.positive j h l;
-  bounded = s.has-distances.bounded j h l;
-  ratio = s.has-sums.ratio j h l;
-  reciprocal = s.has-reciprocals.entry j h l;
-}
-
--- what `part` says
-abbrev Parted : (shift slope bend k r part : ℕ) → Type 0
-Parted shift slope bend k r part = (A d : ℕ) → Factors A slope bend → k ≤ d → 0 < d → Reciprocal shift d r → PartNear A k d part
-
-module _ (A shift s d r : ℕ) (b : Bend) (k part : ℕ) (h : k ≤ d) (o : BendOf A b) (c : Column shift s d r)
-    (g : Parted shift b.slope b.bend k r part) where
-  near : PartNear A k d part
-  near = g A d o.factors h c.positive c.reciprocal
-
-  slack-times : (134217728000 + 1283457024 * A) * (d * d) ≤ 25 * b.slack * (d * d)
+module _ {A slope bend slack middle : ℕ} (o : BendOf A slope bend slack middle) {shift s d r : ℕ} (c : Column shift s d r)
+    {k part : ℕ} (h : k ≤ d) (near : PartNear A k d part) where
+  slack-times : (134217728000 + 1283457024 * A) * (d * d) ≤ 25 * slack * (d * d)
   slack-times = mul-le-mul_right (d * d) o.slack-least
 
   -- the part is at most that of k = d, and 2^31
@@ -109,7 +81,7 @@ module _ (A shift s d r : ℕ) (b : Bend) (k part : ℕ) (h : k ≤ d) (o : Bend
   ratio-small : nat_abs (pos s -ℤ pos d) ≤ d
   ratio-small = difference-small s d d (omega (arith, c.ratio)) (omega arith)
 
-  bracket-above : (v : ℕ) → k + d ≡ s → v + 2147483648 ≡ (64 * A + 1) * 140737488355328 + part → Bracket A (pos s -ℤ pos d) d b.slack v
+  bracket-above : (v : ℕ) → k + d ≡ s → v + 2147483648 ≡ (64 * A + 1) * 140737488355328 + part → Bracket A (pos s -ℤ pos d) d slack v
   bracket-above v e f = record {
     least = low (bent d k) (acp_lift (pos s -ℤ pos d) d) (lift-above s d k e) near.least;
     most = high (bent d k) (acp_lift (pos s -ℤ pos d) d) (lift-above s d k e) near.most;
@@ -123,17 +95,17 @@ module _ (A shift s d r : ℕ) (b : Bend) (k part : ℕ) (h : k ≤ d) (o : Bend
       low B L t l = let u : A * L ≡ A * (B + 25 * d * d) = ap (λ m. A * m) t in omega (arith, times)
 
       high : (B L : ℕ) → L ≡ B + 25 * d * d → 9007199254740992 * A * B ≤ (25 * part + 80530636800 + 1283457024 * A) * (d * d)
-          → 281474976710656 * (64 * A * L + 25 * d * d) ≤ (v + b.slack) * (50 * d * d)
+          → 281474976710656 * (64 * A * L + 25 * d * d) ≤ (v + slack) * (50 * d * d)
       high B L t l = let u : A * L ≡ A * (B + 25 * d * d) = ap (λ m. A * m) t in omega (arith, times, slack-times)
 
-  bracket-below : (v : ℕ) → k + s ≡ d → v + b.slack + part ≡ (64 * A + 1) * 140737488355328 + 2147483648
-      → Bracket A (pos s -ℤ pos d) d b.slack v
+  bracket-below : (v : ℕ) → k + s ≡ d → v + slack + part ≡ (64 * A + 1) * 140737488355328 + 2147483648
+      → Bracket A (pos s -ℤ pos d) d slack v
   bracket-below v e f = record {
     least = low (bent d k) (acp_lift (pos s -ℤ pos d) d) (lift-below s d k h e) near.most;
     most = high (bent d k) (acp_lift (pos s -ℤ pos d) d) (lift-below s d k h e) near.least;
   }
     where
-      times : (v + b.slack + part) * (d * d) ≡ ((64 * A + 1) * 140737488355328 + 2147483648) * (d * d)
+      times : (v + slack + part) * (d * d) ≡ ((64 * A + 1) * 140737488355328 + 2147483648) * (d * d)
       times = ap (λ m. m * (d * d)) f
 
       low : (B L : ℕ) → L + B ≡ 25 * d * d → 9007199254740992 * A * B ≤ (25 * part + 80530636800 + 1283457024 * A) * (d * d)
@@ -141,15 +113,15 @@ module _ (A shift s d r : ℕ) (b : Bend) (k part : ℕ) (h : k ≤ d) (o : Bend
       low B L t l = let u : A * (L + B) ≡ A * (25 * d * d) = ap (λ m. A * m) t in omega (arith, times, slack-times)
 
       high : (B L : ℕ) → L + B ≡ 25 * d * d → 25 * part * (d * d) ≤ 9007199254740992 * A * B + 53687091200 * (d * d)
-          → 281474976710656 * (64 * A * L + 25 * d * d) ≤ (v + b.slack) * (50 * d * d)
+          → 281474976710656 * (64 * A * L + 25 * d * d) ≤ (v + slack) * (50 * d * d)
       high B L t l = let u : A * (L + B) ≡ A * (25 * d * d) = ap (λ m. A * m) t in omega (arith, times)
 
   -- the entry of a column with x = k, and of one with x = −k
-  pub told-above : (v : ℕ) → k + d ≡ s → v ≡ b.middle - 2147483648 + part → v % 281474976710656 + b.slack < 281474976710656
+  pub told-above : (v : ℕ) → k + d ≡ s → v ≡ middle - 2147483648 + part → v % 281474976710656 + slack < 281474976710656
       → position64 Format.Acp A (pos s -ℤ pos d) d ≡ pos (v / 281474976710656) -ℤ pos 32
   told-above v e f = bracket-told c.positive ratio-small (bracket-above v e (omega (arith, o.middle-is)))
 
-  pub told_below : (v : ℕ) → A ≤ 512 → k + s ≡ d → v ≡ b.middle + 9223372039002259456 - b.slack - part → v % 281474976710656 + b.slack < 281474976710656
+  pub told_below : (v : ℕ) → A ≤ 512 → k + s ≡ d → v ≡ middle + 9223372039002259456 - slack - part → v % 281474976710656 + slack < 281474976710656
       → position64 Format.Acp A (pos s -ℤ pos d) d ≡ pos (v / 281474976710656 % 32768) -ℤ pos 32
   told_below v a e f t = go (v - 9223372036854775808) (omega (arith, o.middle-is, o.slack-most, part_small))
     where

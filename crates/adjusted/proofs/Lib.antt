@@ -1,3 +1,4 @@
 pub mod Nearly
 pub mod Columns
 pub mod Told
+pub mod Halves

@@ -1,7 +1,6 @@
 -- Equation 14 within 64 bits, on a scale of 2^48 for each 64th of a sample, and by how much it may be off.
 use Rattle.std.specs.Prelude.{◌≡◌, ℕ, ◌+◌, ◌*◌, ◌≤◌}
 use Rattle.cubemap.proofs.Curves.{bent}
-use Rattle.adjusted.specs.declared.Bend.{Bend}
 
 -- the factors of t and of t² on a face of size A: 34·32·A·2^17 / 25, rounded down, and 9·32·A·2^18 / 25, rounded up
 pub record Factors (A slope bend : ℕ) : Type 0 where
@@ -16,8 +15,8 @@ pub record PartNear (A k d part : ℕ) : Type 0 where
   pub most : 9007199254740992 * A * bent d k ≤ (25 * part + 80530636800 + 1283457024 * A) * (d * d)
 
 -- the numbers of faces of size A: `slack` is the most that a bracket spans, and `middle` is 32·A + 1/2
-pub record BendOf (A : ℕ) (b : Bend) : Type 0 where
-  pub factors : Factors A b.slope b.bend
-  pub slack-least : 134217728000 + 1283457024 * A ≤ 25 * b.slack
-  pub slack-most : b.slack ≤ 34359738368
-  pub middle-is : b.middle ≡ (64 * A + 1) * 140737488355328
+pub record BendOf (A slope bend slack middle : ℕ) : Type 0 where
+  pub factors : Factors A slope bend
+  pub slack-least : 134217728000 + 1283457024 * A ≤ 25 * slack
+  pub slack-most : slack ≤ 34359738368
+  pub middle-is : middle ≡ (64 * A + 1) * 140737488355328

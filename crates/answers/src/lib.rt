@@ -1,99 +1,100 @@
-// What a call answers, on its way to C: numbers in a lent buffer.
+// What a call answers, on its way to C: a code, and numbers in a lent buffer.
 #![tactic(auto)]
 
-ghost use Rattle.std.specs.Prelude.{◌≡◌, ◌+◌, ◌%◌, ◌≤◌, ◌<◌, pos, length};
-ghost use Rattle.std.proofs.lemmas.List.Edits.{sets};
-ghost use Rattle.cubemap.specs.Interface.{little_endian, twos_complement, put_at, put_all};
-ghost use Rattle.cubemap.specs.Outcomes.{score_values, fold_values, equal_values, look_up_values};
+ghost use Rattle.std.specs.Prelude.{◌≡◌, ◌<◌, List, ℤ, pos};
+ghost use Rattle.cubemap.specs.Interface.{put_at, put_all};
+ghost use Rattle.cubemap.specs.Outcomes.{written, score_values, fold_values, equal_values, look_up_values};
+ghost use Rattle.cubemap.specs.Promises.{Gives};
+ghost use Rattle.answers.specs.Answered.{answered};
 
-use cubemap::{Located, Rotation};
+use cubemap::{Located, Refusal, Rotation, Sums};
 
 // ---- numbers in a lent buffer: eight bytes each, two's complement, little-endian
 
-fn twos_complement(v: i64) -> u64
-    ensures { result ≡ twos_complement v }
-{
-    let size = arithmetic::magnitude(v);
-    if v < 0 { u64::MAX - (size - 1) } else { size }
-}
-
-fn low_byte(v: u64) -> u8
-    ensures { result ≡ v % 256 }
-{
-    (v % 256) as u8
-}
-
-// The eight bytes of v from index `at` on, the low one first.
-fn store(buffer: &mut [u8], at: usize, v: u64)
-    requires { at + 8 ≤ length buffer.old }
-    ensures { buffer.new ≡ sets buffer.old at (little_endian 8 v) }
-{
-    let v1 = v / 256;
-    let v2 = v1 / 256;
-    let v3 = v2 / 256;
-    let v4 = v3 / 256;
-    let v5 = v4 / 256;
-    let v6 = v5 / 256;
-    let v7 = v6 / 256;
-    buffer[at] = low_byte(v);
-    buffer[at + 1] = low_byte(v1);
-    buffer[at + 2] = low_byte(v2);
-    buffer[at + 3] = low_byte(v3);
-    buffer[at + 4] = low_byte(v4);
-    buffer[at + 5] = low_byte(v5);
-    buffer[at + 6] = low_byte(v6);
-    buffer[at + 7] = low_byte(v7);
-}
-
 // Number k of the buffer becomes v, where it fits whole.
+#[tactic(auto, unfolding(cubemap::specs::Interface::put_at))]
 fn put(buffer: &mut [u8], k: usize, v: u64)
     requires { k < 4096 }
     ensures { buffer.new ≡ put_at buffer.old k (pos v) }
 {
     if 8 * k + 8 <= buffer.len() {
-        store(buffer, 8 * k, v);
+        buffer[8 * k..8 * k + 8].copy_from_slice(&v.to_le_bytes());
     }
 }
 
+// The same of a signed number. (Each call names its numbers one by one, and so their kinds: a trait would say no more.)
 fn put_signed(buffer: &mut [u8], k: usize, v: i64)
     requires { k < 4096 }
     ensures { buffer.new ≡ put_at buffer.old k v }
 {
-    put(buffer, k, twos_complement(v));
+    put(buffer, k, v.cast_unsigned());
 }
 
 // ---- the values of each call
 
-pub fn put_sums(answer: &mut [u8], errors: u64, weights: u64)
-    ensures { answer.new ≡ put_all answer.old 0 (score_values errors weights) }
-{
-    put(answer, 0, errors);
-    put(answer, 1, weights);
+// What an accepted call has to say, as numbers.
+pub trait Values {
+    ghost values: { Self → List ℤ };
+
+    // Writes the numbers, one behind the other.
+    fn put_values(self, buffer: &mut [u8])
+        ensures { buffer.new ≡ put_all buffer.old 0 (values self) };
 }
 
-pub fn put_rotation(answer: &mut [u8], t: Rotation)
-    ensures { answer.new ≡ put_all answer.old 0 (fold_values t) }
-{
-    put_signed(answer, 0, t.e0);
-    put_signed(answer, 1, t.e1);
-    put_signed(answer, 2, t.e2);
-    put_signed(answer, 3, t.e3);
-}
+#[tactic(auto, unfolding(cubemap::specs::Interface::put_all))]
+impl Values for Sums {
+    ghost values = { λ s. score_values s.errors s.weights };
 
-pub fn put_equal(answer: &mut [u8], equal: bool)
-    ensures { answer.new ≡ put_all answer.old 0 (equal_values equal) }
-{
-    if equal {
-        put(answer, 0, 1);
-    } else {
-        put(answer, 0, 0);
+    fn put_values(self, buffer: &mut [u8]) {
+        put(buffer, 0, self.errors);
+        put(buffer, 1, self.weights);
     }
 }
 
-pub fn put_located(answer: &mut [u8], p: Located)
-    ensures { answer.new ≡ put_all answer.old 0 (look_up_values p) }
+#[tactic(auto, unfolding(cubemap::specs::Interface::put_all))]
+impl Values for Rotation {
+    ghost values = { fold_values };
+
+    fn put_values(self, buffer: &mut [u8]) {
+        put_signed(buffer, 0, self.e0);
+        put_signed(buffer, 1, self.e1);
+        put_signed(buffer, 2, self.e2);
+        put_signed(buffer, 3, self.e3);
+    }
+}
+
+#[tactic(auto, unfolding(cubemap::specs::Interface::put_all))]
+impl Values for bool {
+    ghost values = { equal_values };
+
+    fn put_values(self, buffer: &mut [u8]) {
+        put(buffer, 0, u64::from(self));
+    }
+}
+
+#[tactic(auto, unfolding(cubemap::specs::Interface::put_all))]
+impl Values for Located {
+    ghost values = { look_up_values };
+
+    fn put_values(self, buffer: &mut [u8]) {
+        put(buffer, 0, self.face);
+        put_signed(buffer, 1, self.column);
+        put_signed(buffer, 2, self.row);
+    }
+}
+
+// ---- the end of a call
+
+// Writes the values of an accepted call and gives 0; gives the code of a refusal.
+#[tactic(auto, unfolding(cubemap::specs::Interface::put_all))]
+pub fn answer<T: Values>(outcome: Result<T, Refusal>, buffer: &mut [u8]) -> u64
+    ensures { Gives (written (answered T.values outcome) buffer.old) result buffer.new }
 {
-    put(answer, 0, p.face);
-    put_signed(answer, 1, p.column);
-    put_signed(answer, 2, p.row);
+    match outcome {
+        Ok(values) => {
+            values.put_values(buffer);
+            0
+        }
+        Err(refused) => u64::from(refused),
+    }
 }

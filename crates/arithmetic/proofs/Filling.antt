@@ -1,5 +1,5 @@
 -- A table filled entry by entry.
-use mathlib.Core.Path.{◌≡◌, sym, subst}
+use mathlib.Core.Path.{sym, subst}
 use mathlib.Core.Logic.{inl, inr}
 use mathlib.Core.List.{List}
 use Prim.Native.Nat.{ℕ, ◌+◌, ◌≤◌, ◌<◌}
@@ -18,7 +18,3 @@ module _ {X : Type 0} {from j : ℕ} (table : List X) (v d : X) where
         | inl e ↦ subst (λ i. P i (get_or (set table j v) i d)) (sym e) (subst (P j) (sym (get_or-set_same table j v d inside)) is)
         | inr u ↦ subst (P i) (sym (get_or-set_other table j i v d (λ e. absurd (omega (arith, u, e))))) (before i h u)
       ]
-
-  -- the entries before number `from` stay
-  pub entries-kept : from ≤ j → {i : ℕ} → i < from → get_or (set table j v) i d ≡ get_or table i d
-  entries-kept h {i} l = get_or-set_other table j i v d (λ (e : i ≡ j). absurd (omega (arith, h, l, e)))

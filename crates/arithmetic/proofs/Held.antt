@@ -2,20 +2,19 @@
 -- one law: from what its two operands hold, that the operation does not overflow (`-ok`), and what its result holds. Where the bounds are
 -- numerals, `tt` decides.
 use mathlib.Core.Path.{◌≡◌, refl, sym, ◌∙◌, ap, ap₂, subst}
-use mathlib.Core.Bool.{Bool, true, false}
+use mathlib.Core.Bool.{Bool, false}
 use Prim.Native.Nat.{ℕ, zero, suc, ◌+◌, ◌*◌, ◌^◌, ◌≤◌, ◌<◌}
 use native.Mathlib.Nat.{le_trans, le_refl, mul-le-mul, add-le-add, lt_of_le_of_lt, div-le_self}
 use native.Mathlib.Omega.{arith}
-use lib.Dec.{T, leb, ltb, ltb→lt, eqb, eqb→eq, eqb_refl}
-use borrow.Author.Tests.{lt-ltb, le-ltb, ne_eqb}
-use lib.IntN.{ℤ, pos, negsuc, neg_ℤ, nat_abs, ◌+ℤ◌, ◌-ℤ◌, ◌*ℤ◌, +ℤ_idl, neg_ℤ-+ℤ, -ℤ-+ℤ_cancel}
-use lib.Signed.{mag, lt_z, non_neg, shr_z, nat_abs-le}
+use lib.Dec.{T, ltb, ltb→lt, eqb}
+use borrow.Author.Tests.{lt-ltb, ne_eqb}
+use lib.IntN.{ℤ, pos, negsuc, neg_ℤ, nat_abs, ◌+ℤ◌, ◌-ℤ◌, ◌*ℤ◌, +ℤ_idl}
+use lib.Signed.{mag, lt_z, non_neg, shr_z}
 use mir.Syntax.{w64}
 use mir.Val.{SFits, Fits, to_z, of_z}
 use mir.Facts.{to_z-of_z}
-use Rattle.arithmetic.specs.Integers.{floor_div, with_sign_of, is_positive, is_negative, equalℤ}
-use Rattle.arithmetic.proofs.Tests.{same_test}
-use Rattle.arithmetic.proofs.Sizes.{neg_small, nat_abs_mul, nat_abs-add, equalℤ→eq, equalℤ-refl}
+use Rattle.arithmetic.specs.Integers.{floor_div, is_positive}
+use Rattle.arithmetic.proofs.Sizes.{neg_small, nat_abs_mul, nat_abs-add}
 
 mag-nat_abs : (z : ℤ) → mag z ≤ nat_abs z
 mag-nat_abs (pos n) = le_refl n
@@ -48,12 +47,6 @@ held-literal n t = held-nat (le_refl n) t
 -- what holds of the number that the bits of x read as holds of x
 pub read_back : {X : Type 0} (f : ℤ → X) {r : X} (x : ℤ) → SFits w64 x → r ≡ f (to_z w64 (of_z w64 x)) → r ≡ f x
 read_back f x s e = e ∙ ap f (to_z-of_z s)
-
-pub read-sign : {b : Bool} (x : ℤ) → SFits w64 x → lt_z (to_z w64 (of_z w64 x)) (pos 0) ≡ b → lt_z x (pos 0) ≡ b
-read-sign x s e = sym (read_back (λ x. lt_z x (pos 0)) x s (sym e))
-
-pub read-within : (B : ℕ) {r : Bool} (x : ℤ) → SFits w64 x → r ≡ leb (nat_abs (to_z w64 (of_z w64 x))) B → r ≡ leb (nat_abs x) B
-read-within B = read_back (λ x. leb (nat_abs x) B)
 
 -- a bounded result of a call, read: its value and its bound
 pub read_result : {z e : ℤ} {B : ℕ} → T (ltb B (2 ^ 63)) → (z ≡ e) × (nat_abs z ≤ B) → (to_z w64 (of_z w64 z) ≡ e) × (nat_abs (to_z w64 (of_z w64 z)) ≤ B)
@@ -131,51 +124,7 @@ not-below-zero : (x : ℤ) → lt_z x (pos 0) ≡ false → T (non_neg x)
 not-below-zero (pos n) e = tt
 not-below-zero (negsuc n) e = subst T e tt
 
--- any number that is not below zero, cast to u64
-pub cast-not-below : (x : ℤ) → SFits w64 x → lt_z (to_z w64 (of_z w64 x)) (pos 0) ≡ false
-    → T (non_neg (to_z w64 (of_z w64 x))) × Fits w64 (nat_abs (to_z w64 (of_z w64 x)))
-cast-not-below x f e =
-    let h = nat_abs-le x f.sfits in
-    (not-below-zero (to_z w64 (of_z w64 x)) e, subst (λ z. Fits w64 (nat_abs z)) (sym (to_z-of_z f)) (record { fits = omega arith }))
-
--- ---- the size of any number, of the lowest too: one is added to a number below zero before its sign changes
-
-pub record BelowZero (x : ℤ) : Type 0 where
-  pub rest : ℕ
-  pub is : nat_abs x ≡ rest + 1
-  pub small : rest < 2 ^ 63
-  pub next : x +ℤ pos 1 ≡ neg_ℤ (pos rest)
-
-pub below-zero-is : (x : ℤ) → SFits w64 x → lt_z (to_z w64 (of_z w64 x)) (pos 0) ≡ true → BelowZero x
-below-zero-is x f e = go x f (subst (λ z. lt_z z (pos 0) ≡ true) (to_z-of_z f) e)
-  where
-    go : (x : ℤ) → SFits w64 x → lt_z x (pos 0) ≡ true → BelowZero x
-    go (pos n) f e = let h = ltb→lt n 0 (subst T (sym e) tt) in absurd (omega arith)
-    go (negsuc n) f e =
-        let s : suc n ≡ n + 1 = omega arith in
-        record {
-          rest = n;
-          is = s;
-          small = f.sfits;
-          next = ap (λ m. neg_ℤ (pos m) +ℤ pos 1) s ∙ ap (λ z. z +ℤ pos 1) (neg_ℤ-+ℤ (pos n) (pos 1)) ∙ -ℤ-+ℤ_cancel (neg_ℤ (pos n)) (pos 1);
-        }
-
--- the test of a sign that the machine makes, and a size with that sign
-pub sign_below : (x : ℤ) (c : ℕ) → lt_z x (pos 0) ≡ true → with_sign_of x c ≡ neg_ℤ (pos c)
-sign_below (pos n) c e = let h = ltb→lt n 0 (subst T (sym e) tt) in absurd (omega arith)
-sign_below (negsuc n) c e = refl
-
-pub sign_above : (x : ℤ) (c : ℕ) → lt_z x (pos 0) ≡ false → with_sign_of x c ≡ pos c
-sign_above (pos n) c e = refl
-sign_above (negsuc n) c e = absurd (subst T e tt)
-
--- the machine's tests of a sign: z is what it reads of x
-pub tests-negative : {z x : ℤ} {b : Bool} → z ≡ x → lt_z z (pos 0) ≡ b → is_negative x ≡ b
-tests-negative {z} {x} h e = sym (go x) ∙ ap (λ z. lt_z z (pos 0)) (sym h) ∙ e
-  where
-    go : (x : ℤ) → lt_z x (pos 0) ≡ is_negative x
-    go (pos n) = le-ltb n 0 (omega arith)
-    go (negsuc n) = refl
+-- ---- tests of a sign
 
 pub tests-positive : {z x : ℤ} {b : Bool} → z ≡ x → lt_z (pos 0) z ≡ b → is_positive x ≡ b
 tests-positive {z} {x} h e = sym (go x) ∙ ap (λ z. lt_z (pos 0) z) (sym h) ∙ e
@@ -187,13 +136,7 @@ tests-positive {z} {x} h e = sym (go x) ∙ ap (λ z. lt_z (pos 0) z) (sym h) �
 
 -- ---- tests on bits
 
--- two numbers have the same bits where they are equal
-pub bits-equal : (x y : ℤ) → SFits w64 x → SFits w64 y → eqb (of_z w64 x) (of_z w64 y) ≡ equalℤ x y
-bits-equal x y f g = same_test (eqb (of_z w64 x) (of_z w64 y)) (equalℤ x y)
-    (λ t. subst (λ z. T (equalℤ x z)) (sym (to_z-of_z f) ∙ ap (to_z w64) (eqb→eq (of_z w64 x) (of_z w64 y) t) ∙ to_z-of_z g) (equalℤ-refl x))
-    (λ t. subst (λ z. T (eqb (of_z w64 x) (of_z w64 z))) (equalℤ→eq x y t) (eqb_refl (of_z w64 x)))
-
--- and only 0 has the bits of 0
+-- only 0 has the bits of 0
 pub bits-zero : (x : ℤ) → SFits w64 x → eqb (of_z w64 x) 0 ≡ eqb (nat_abs x) 0
 bits-zero (pos n) f = refl
 bits-zero (negsuc n) f =

@@ -250,15 +250,6 @@ count-two test (suc n) r k l h t u = go (ℕ_discrete k n) (λ m. count-two test
     go (yes e) ih = omega (arith, cond-true {X = ℕ} (test n) 1 0 (subst (λ j. T (test j)) e u), count-one test n r (omega arith) t)
     go (no d) ih = omega (arith, ih (omega arith))
 
--- one number more
-pub count_yes : (test : ℕ → Bool) (n : ℕ) → test n ≡ true → count_below test (n + 1) ≡ count_below test n + 1
-unfolding sum_below
-count_yes test n e = rw (add-one n, e)
-
-pub count_no : (test : ℕ → Bool) (n : ℕ) → test n ≡ false → count_below test (n + 1) ≡ count_below test n
-unfolding sum_below
-count_no test n e = rw (add-one n, e) (add-zero (count_below test n))
-
 -- ---- where each number below n is one of n numbers exactly once, the n numbers are all below n
 
 -- x is one number below n, or n or more

@@ -1,20 +1,13 @@
--- What a call's questions have come to: after each one, the answer so far.
-use Rattle.std.specs.Prelude.{◌≡◌, Bool, cond, List, ℕ, ◌≤◌, T, length}
+-- What a question answers, and what a search of a frame's samples finds.
+use Rattle.std.specs.Prelude.{◌≡◌, Bool, cond, List, ℕ, ◌≤◌, T, length, Result as Returned, Ok, Err}
+use Rattle.cubemap.specs.declared.Refusal.{Refusal}
 use Rattle.cubemap.specs.declared.Shape.{Shape}
-use Rattle.cubemap.specs.Interface.{Answer, accepted, is_accepted}
 use Rattle.cubemap.specs.Frames.{bytes_in}
 use Rattle.cubemap.specs.Checks.{depth_ok, samples_ok, lowest_beyond}
-use Rattle.cubemap.specs.Outcomes.{refusal}
-use Rattle.checks.specs.declared.Checked.{Checked}
-use Rattle.checks.specs.declared.Found.{Found}
 
-abbrev pub checked_means : Checked → Answer
-checked_means Checked.Accepted = accepted
-checked_means (Checked.Refused r) = refusal r
-
--- one check more: it decides where none before it did
-unfoldable pub asked : Answer → Bool → Answer → Answer
-asked so_far holds refused = cond (is_accepted so_far) (cond holds accepted refused) so_far
+-- one question: "yes", or its refusal
+abbrev pub asked : Bool → Refusal → Returned Unit Refusal
+asked holds refused = cond holds (Ok tt) (Err refused)
 
 -- what code asks of a frame before it looks at its samples
 pub record Readable (z : Shape) (bytes : List ℕ) : Type 0 where
@@ -22,7 +15,6 @@ pub record Readable (z : Shape) (bytes : List ℕ) : Type 0 where
   pub depth-ok : T (depth_ok z.depth)
   pub whole : length bytes ≡ bytes_in z
 
--- what a search of all samples finds
-pub record Searched (z : Shape) (bytes : List ℕ) (r : Found) : Type 0 where
-  pub within : r.within ≡ samples_ok z bytes
-  pub lowest : r.lowest ≡ lowest_beyond z bytes
+-- what a search of all samples finds: each is within the depth, or the lowest index of one that is not
+abbrev pub searched : Shape → List ℕ → Returned Unit ℕ
+searched z bytes = cond (samples_ok z bytes) (Ok tt) (Err (lowest_beyond z bytes))

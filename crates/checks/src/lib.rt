@@ -1,119 +1,66 @@
-// The questions of the calls: one test for each, the answer that a call has come to, and the code of a refusal.
+// The questions of the calls: a test for each, and how a call asks them.
 #![tactic(auto)]
 
-ghost use Rattle.std.specs.Prelude.{◌≡◌, ◌&&◌, ◌+◌, ◌*◌, ◌≤◌, ◌<◌, T, length};
+ghost use Rattle.std.specs.Prelude.{◌≡◌, ◌↔◌, ◌+◌, ◌*◌, ◌≤◌, ◌<◌, ◌==◌};
+ghost use Rattle.std.specs.Prelude.{ℕ, T, IsTrue, EachIndex, count_by, length, slice_index};
 ghost use Rattle.arithmetic.specs.Searches.{all_below};
-ghost use Rattle.cubemap.specs.Interface.{answer, is_accepted, return_code};
 ghost use Rattle.cubemap.specs.Frames.{samples_in};
-ghost use Rattle.cubemap.specs.Checks.{size_ok, depth_ok, code_ok, layout_ok, length_ok, sample_ok, samples_ok};
-ghost use Rattle.cubemap.specs.Checks.{rotation_in_range, rotation_nonzero, lowest_beyond, ray_in_range, ray_nonzero};
+ghost use Rattle.cubemap.specs.Checks.{size_ok, depth_ok, layout_ok, length_ok, sample_ok};
+ghost use Rattle.cubemap.specs.Checks.{rotation_in_range, rotation_nonzero, ray_in_range, ray_nonzero};
 ghost use Rattle.cubemap.specs.Outcomes.{refusal};
-ghost use Rattle.cubemap.proofs.Layouts.{slots_with, faces_once, turns_few};
-ghost use Rattle.checks.specs.Asking.{checked_means, asked, Readable, Searched};
+ghost use Rattle.checks.specs.Asking.{asked, searched, Readable};
 
+use arithmetic::within;
 use cubemap::{Ray, Refusal, Rotation, Shape};
 
 // ---- one question after the other
 
-// What a call's questions have come to so far.
-#[derive(Clone, Copy)]
-pub enum Checked {
-    Accepted,
-    Refused(Refusal),
-}
-
-// Asks one question more: where no question before it said "no", its own answer counts.
-pub fn ask(so_far: Checked, holds: bool, refused: Refusal) -> Checked
-    ensures { checked_means result ≡ asked (checked_means so_far) holds (refusal refused) }
+// Asks a question. A call asks its questions one by one, each with `?`: the first "no" ends it.
+pub fn ask(holds: bool, refused: Refusal) -> Result<(), Refusal>
+    ensures { result ≡ asked holds refused }
 {
-    match so_far {
-        Checked::Refused(earlier) => Checked::Refused(earlier),
-        Checked::Accepted => {
-            if holds {
-                Checked::Accepted
-            } else {
-                Checked::Refused(refused)
-            }
-        }
-    }
+    if holds { Ok(()) } else { Err(refused) }
 }
 
 // ---- numbers and codes
 
 // Questions 1 and 2, of one face size.
+#[tactic(auto, unfolding(cubemap::specs::Checks::size_ok))]
 pub fn size_ok(size: u64) -> bool
     ensures { result ≡ size_ok size }
 {
-    (1 <= size) & (size <= 512)
+    (1..=512).contains(&size)
 }
 
 // Question 3.
+#[tactic(auto, unfolding(cubemap::specs::Checks::depth_ok))]
 pub fn depth_ok(depth: u64) -> bool
     ensures { result ≡ depth_ok depth }
 {
-    (8 <= depth) & (depth <= 12)
-}
-
-// Question 4, of one code.
-pub fn code_ok(code: u64) -> bool
-    ensures { result ≡ code_ok code }
-{
-    code <= 1
-}
-
-// Question 4, of two formats and a sampler.
-pub fn codes_ok(source_format: u64, target_format: u64, sampler: u64) -> bool
-    ensures { result ≡ (code_ok source_format && code_ok target_format && code_ok sampler) }
-{
-    code_ok(source_format) & code_ok(target_format) & code_ok(sampler)
+    (8..=12).contains(&depth)
 }
 
 // ---- layouts
 
-// How many of the six slots hold the face.
-fn face_count(layout: &[u8], face: u64) -> u64
-    requires { length layout.now ≡ 12 }
-    ensures { result ≡ slots_with layout.now face }
+// How many of these slots hold the face.
+fn face_count(faces: &[u8], face: u8) -> usize
+    ensures { result ≡ count_by (λ held. held == face) faces.now }
 {
-    let mut count = 0;
-    let mut slot = 0;
-    while slot < 6 {
-        if frame::wide(layout[slot]) == face {
-            count += 1;
-        }
-        slot += 1;
-    }
-    count
+    faces.iter().filter(|held| **held == face).count()
 }
 
 // Is each face in one slot?
-fn faces_ok(layout: &[u8]) -> bool
-    requires { length layout.now ≡ 12 }
-    ensures { result ≡ faces_once layout.now }
+fn faces_ok(faces: &[u8]) -> bool
+    ensures { IsTrue result ↔ ((face : ℕ) → face < 6 → count_by (λ held. held == face) faces.now ≡ 1) }
 {
-    let mut face = 0;
-    while face < 6 {
-        if face_count(layout, face) != 1 {
-            return false;
-        }
-        face += 1;
-    }
-    true
+    (0..6).all(|face| face_count(faces, face) == 1)
 }
 
 // Is each slot turned at most three times?
-fn turns_ok(layout: &[u8]) -> bool
-    requires { length layout.now ≡ 12 }
-    ensures { result ≡ turns_few layout.now }
+fn turns_ok(turns: &[u8]) -> bool
+    ensures { IsTrue result ↔ EachIndex turns.now (λ slot. slice_index turns.now slot ≤ 3) }
 {
-    let mut slot = 0;
-    while slot < 6 {
-        if 3 < frame::wide(layout[6 + slot]) {
-            return false;
-        }
-        slot += 1;
-    }
-    true
+    turns.iter().all(|turned| *turned <= 3)
 }
 
 // Question 5, of a layout of any length.
@@ -123,89 +70,60 @@ pub fn layout_ok(layout: &[u8]) -> bool
     if layout.len() != 12 {
         return false;
     }
-    faces_ok(layout) & turns_ok(layout)
-}
-
-// Question 5, of two layouts.
-pub fn layouts_ok(first: &[u8], second: &[u8]) -> bool
-    ensures { result ≡ (layout_ok first.now && layout_ok second.now) }
-{
-    layout_ok(first) & layout_ok(second)
+    let (faces, turns) = layout.split_at(6);
+    faces_ok(faces) & turns_ok(turns)
 }
 
 // ---- rotations and rays
 
 // Questions 6 and 12, of one rotation.
+#[tactic(auto, unfolding(cubemap::specs::Checks::rotation_in_range))]
 pub fn rotation_in_range(t: Rotation) -> bool
     ensures { result ≡ rotation_in_range t }
 {
-    let s0 = arithmetic::within(31, t.e0);
-    let s1 = arithmetic::within(31, t.e1);
-    let s2 = arithmetic::within(31, t.e2);
-    let s3 = arithmetic::within(31, t.e3);
-    s0 & s1 & s2 & s3
+    within(31, t.e0) & within(31, t.e1) & within(31, t.e2) & within(31, t.e3)
 }
 
 // Question 7, of one rotation.
+#[tactic(auto, unfolding(cubemap::specs::Checks::rotation_nonzero))]
 pub fn rotation_nonzero(t: Rotation) -> bool
     ensures { result ≡ rotation_nonzero t }
 {
-    let e0 = t.e0;
-    let e1 = t.e1;
-    let e2 = t.e2;
-    let e3 = t.e3;
-    !((e0 == 0) & (e1 == 0) & (e2 == 0) & (e3 == 0))
-}
-
-// Question 6, of two rotations.
-pub fn rotations_in_range(a: Rotation, b: Rotation) -> bool
-    ensures { result ≡ (rotation_in_range a && rotation_in_range b) }
-{
-    rotation_in_range(a) & rotation_in_range(b)
-}
-
-// Question 7, of two rotations.
-pub fn rotations_nonzero(a: Rotation, b: Rotation) -> bool
-    ensures { result ≡ (rotation_nonzero a && rotation_nonzero b) }
-{
-    rotation_nonzero(a) & rotation_nonzero(b)
+    [t.e0, t.e1, t.e2, t.e3] != [0; 4]
 }
 
 // Question 13.
+#[tactic(auto, unfolding(cubemap::specs::Checks::ray_in_range))]
 pub fn ray_in_range(v: Ray) -> bool
     ensures { result ≡ ray_in_range v }
 {
-    let sx = arithmetic::within(536870911, v.x);
-    let sy = arithmetic::within(536870911, v.y);
-    let sz = arithmetic::within(536870911, v.z);
-    sx & sy & sz
+    within(536870911, v.x) & within(536870911, v.y) & within(536870911, v.z)
 }
 
 // Question 14.
+#[tactic(auto, unfolding(cubemap::specs::Checks::ray_nonzero))]
 pub fn ray_nonzero(v: Ray) -> bool
     ensures { result ≡ ray_nonzero v }
 {
-    let x = v.x;
-    let y = v.y;
-    let z = v.z;
-    !((x == 0) & (y == 0) & (z == 0))
+    [v.x, v.y, v.z] != [0; 3]
 }
 
 // ---- the bytes of a frame
 
-// Questions 8 and 9: is this the length of a frame's bytes? From 1,239,850,263 columns on, 12·A² is beyond 64 bits, and
-// no length is that long.
+// Questions 8 and 9: is this the length of a frame's bytes? Where 12·A² is beyond 64 bits, no length is that long.
+#[tactic(auto, unfolding(cubemap::specs::Checks::length_ok, cubemap::specs::Frames::bytes_in, cubemap::specs::Frames::samples_in))]
 pub fn length_ok(shape: Shape, length: usize) -> bool
     ensures { result ≡ length_ok shape length }
 {
-    let size = shape.size;
-    if 1239850262 < size {
-        return false;
-    }
-    length as u64 == 12 * (size * size)
+    let bytes = shape
+        .size
+        .checked_mul(shape.size)
+        .and_then(|square| square.checked_mul(12));
+    bytes == Some(length as u64)
 }
 
 // The number of samples of a frame.
+#[tactic(auto, unfolding(cubemap::specs::Frames::samples_in))]
 fn samples_in(shape: Shape) -> u64
     requires { shape.size ≤ 512 }
     ensures { (result ≡ samples_in shape) × (result ≤ 1572864) }
@@ -222,12 +140,10 @@ fn part_ok(shape: Shape, bytes: &[u8], from: u64, count: u64) -> bool
     ensures { result ≡ all_below (λ i. sample_ok shape bytes.now (from + i)) count }
 {
     let mut bits: u16 = 0;
-    let mut i: u64 = 0;
-    while i < count {
-        bits = bits | frame::sample(bytes, (from + i) as usize) as u16;
-        i += 1;
+    for i in 0..count {
+        bits |= frame::sample(bytes, (from + i) as usize) as u16;
     }
-    (bits as u64) < frame::sample_bound(shape.depth)
+    u64::from(bits) < frame::sample_bound(shape.depth)
 }
 
 // The samples of a block. A block that is within the depth is passed over as a whole.
@@ -239,118 +155,36 @@ fn blocks_ok(shape: Shape, bytes: &[u8]) -> u64
     requires { Readable shape bytes.now }
     ensures { T (all_below (sample_ok shape bytes.now) result) × (result ≤ samples_in shape) }
 {
-    let count = samples_in(shape);
-    let mut start: u64 = 0;
-    while start + BLOCK <= count {
+    let whole = samples_in(shape) / BLOCK;
+    for block in 0..whole {
+        let start = block * BLOCK;
         if !part_ok(shape, bytes, start, BLOCK) {
             return start;
         }
-        start += BLOCK;
     }
-    start
+    whole * BLOCK
 }
 
-// The lowest index with a sample beyond the depth; the number of samples where there is none. One block at most is
+// Questions 10 and 11: is each sample within the depth? Else the lowest index of one that is not. One block at most is
 // searched sample by sample.
-fn lowest_beyond(shape: Shape, bytes: &[u8]) -> u64
+pub fn samples_within(shape: Shape, bytes: &[u8]) -> Result<(), u32>
     requires { Readable shape bytes.now }
-    ensures { (result ≡ lowest_beyond shape bytes.now) × (result ≤ 1572864) }
+    ensures { result ≡ searched shape bytes.now }
 {
-    let count = samples_in(shape);
     let bound = frame::sample_bound(shape.depth);
-    let mut index = blocks_ok(shape, bytes);
-    while index < count {
+    for index in blocks_ok(shape, bytes)..samples_in(shape) {
         if bound <= frame::sample(bytes, index as usize) {
-            return index;
+            return Err(index as u32);
         }
-        index += 1;
     }
-    count
-}
-
-// What a search of a frame's samples has found: whether each is within the depth, and else the lowest index of one that
-// is not.
-#[derive(Clone, Copy)]
-pub struct Found {
-    pub within: bool,
-    pub lowest: u32,
-}
-
-// Searches all samples.
-fn search(shape: Shape, bytes: &[u8]) -> Found
-    requires { Readable shape bytes.now }
-    ensures { Searched shape bytes.now result }
-{
-    let lowest = lowest_beyond(shape, bytes);
-    Found {
-        within: lowest == samples_in(shape),
-        lowest: lowest as u32,
-    }
-}
-
-// Searches all samples where no question said "no"; else none is looked at, and nothing is said.
-fn samples(so_far: Checked, shape: Shape, bytes: &[u8]) -> Found
-    requires { T (is_accepted (checked_means so_far)) → Readable shape bytes.now }
-    ensures { T (is_accepted (checked_means so_far)) → Searched shape bytes.now result }
-{
-    match so_far {
-        Checked::Accepted => search(shape, bytes),
-        Checked::Refused(_) => Found {
-            within: false,
-            lowest: 0,
-        },
-    }
-}
-
-// Question 10.
-pub fn ask_first_samples(so_far: Checked, shape: Shape, bytes: &[u8]) -> Checked
-    requires { T (is_accepted (checked_means so_far)) → Readable shape bytes.now }
-    ensures { checked_means result ≡ asked (checked_means so_far)
-        (samples_ok shape bytes.now) (answer 10 (lowest_beyond shape bytes.now)) }
-{
-    let found = samples(so_far, shape, bytes);
-    ask(so_far, found.within, Refusal::FirstSample(found.lowest))
-}
-
-// Question 11.
-pub fn ask_second_samples(so_far: Checked, shape: Shape, bytes: &[u8]) -> Checked
-    requires { T (is_accepted (checked_means so_far)) → Readable shape bytes.now }
-    ensures { checked_means result ≡ asked (checked_means so_far)
-        (samples_ok shape bytes.now) (answer 11 (lowest_beyond shape bytes.now)) }
-{
-    let found = samples(so_far, shape, bytes);
-    ask(so_far, found.within, Refusal::SecondSample(found.lowest))
+    Ok(())
 }
 
 // ---- a refusal, as the paper has it
-
-// The code of a refusal: its number plus 256 times the index, which is 0 but for questions 10 and 11.
-pub fn refusal_code(refused: Refusal) -> u64
-    ensures { result ≡ return_code (refusal refused) }
-{
-    match refused {
-        Refusal::FaceSize => 1,
-        Refusal::TargetSize => 2,
-        Refusal::Depth => 3,
-        Refusal::Code => 4,
-        Refusal::Layout => 5,
-        Refusal::RotationRange => 6,
-        Refusal::RotationZero => 7,
-        Refusal::FirstLength => 8,
-        Refusal::SecondLength => 9,
-        Refusal::FirstSample(i) => 10 + 256 * (i as u64),
-        Refusal::SecondSample(i) => 11 + 256 * (i as u64),
-        Refusal::FoldedRange => 12,
-        Refusal::RayRange => 13,
-        Refusal::RayZero => 14,
-        Refusal::RecordKind => 15,
-        Refusal::RecordCut => 16,
-    }
-}
 
 // The number of the question that a refusal says "no" to.
 pub fn number(refused: Refusal) -> u64
     ensures { (result ≡ (refusal refused).number) × (result ≤ 24) }
 {
-    refusal_code(refused) % 256
+    u64::from(refused) % 256
 }

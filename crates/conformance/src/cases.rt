@@ -1,17 +1,12 @@
 // The groups of conversions, each counted from 0.
 ghost use Rattle.std.specs.Prelude.{◌≡◌, ◌<◌};
 
-use crate::Case;
+use crate::{Case, Damage};
 use cubemap::Rotation;
 
 // A turn by its four numbers.
 pub fn turn_of(e0: i64, e1: i64, e2: i64, e3: i64) -> Rotation {
-    Rotation {
-        e0: e0,
-        e1: e1,
-        e2: e2,
-        e3: e3,
-    }
+    Rotation { e0, e1, e2, e3 }
 }
 
 // A turn that takes no axis onto an axis.
@@ -19,7 +14,7 @@ fn oblique_turn() -> Rotation {
     turn_of(29, 3, 7, -5)
 }
 
-// A conversion with all codes 0 and no damage.
+// A conversion with all codes 0 and no damage. (Codes are numbers: those that name nothing are tried too.)
 fn plain(
     source_size: u64,
     target_size: u64,
@@ -28,37 +23,32 @@ fn plain(
     target_layout: u64,
     turn: Rotation,
 ) -> Case
-    ensures { result.depth ≡ depth }
+    requires { depth < 16 }
 {
     Case {
-        source_size: source_size,
-        target_size: target_size,
-        depth: depth,
+        source_size,
+        target_size,
+        depth,
         source_format: 0,
         target_format: 0,
         sampler: 0,
-        source_layout: source_layout,
-        target_layout: target_layout,
-        turn: turn,
-        damage: 0,
+        source_layout,
+        target_layout,
+        turn,
+        damage: Damage::None,
     }
 }
 
 // The conversion with the codes of a mix, 0 to 7: its three bits.
-fn mixed(case: Case, mix: u64) -> Case
-    ensures { result.depth ≡ case.depth }
-{
-    let mut r = case;
-    r.source_format = mix % 2;
-    r.target_format = mix / 2 % 2;
-    r.sampler = mix / 4;
-    r
+fn mixed(mut case: Case, mix: u64) -> Case {
+    case.source_format = mix % 2;
+    case.target_format = mix / 2 % 2;
+    case.sampler = mix / 4;
+    case
 }
 
 // Group 1: each size to itself and to the next one, with each mix.
-fn size_case(i: u64) -> Case
-    ensures { result.depth < 16 }
-{
+pub fn size_case(i: u64) -> Case {
     let sizes = [0, 1, 2, 3, 511, 512, 513];
     let first = (i / 16 % 7) as usize;
     let second = ((i / 16 + i / 8 % 2) % 7) as usize;
@@ -68,32 +58,20 @@ fn size_case(i: u64) -> Case
     )
 }
 
-// A depth of group 2.
-fn depth_at(i: u64) -> u64
-    ensures { result < 16 }
-{
-    match i {
+// Group 2: both ends of the range of depths and one beyond each, with each mix, to a smaller target and to one of the
+// same size.
+pub fn depth_case(i: u64) -> Case {
+    let depth = match i / 8 % 4 {
         0 => 7,
         1 => 8,
         2 => 12,
         _ => 13,
-    }
-}
-
-// Group 2: both ends of the range of depths and one beyond each, with each mix, to a smaller target and to one of the same size.
-fn depth_case(i: u64) -> Case
-    ensures { result.depth < 16 }
-{
-    mixed(
-        plain(3, 2 + i / 32, depth_at(i / 8 % 4), 0, 1, oblique_turn()),
-        i % 8,
-    )
+    };
+    mixed(plain(3, 2 + i / 32, depth, 0, 1, oblique_turn()), i % 8)
 }
 
 // Group 3: both ends of the range of a turn's numbers and one beyond each, at each position, with mixes 0 and 7.
-fn turn_number_case(i: u64) -> Case
-    ensures { result.depth < 16 }
-{
+pub fn turn_number_case(i: u64) -> Case {
     let numbers = [-32, -31, 31, 32];
     let mut e = [5, -3, 2, 1];
     let position = (i / 8 % 4) as usize;
@@ -104,9 +82,7 @@ fn turn_number_case(i: u64) -> Case
 }
 
 // Group 4: each layout with each, to a smaller target and to one of the same size.
-fn layout_case(i: u64) -> Case
-    ensures { result.depth < 16 }
-{
+pub fn layout_case(i: u64) -> Case {
     mixed(plain(3, 2 + i / 49, 8, i / 7 % 7, i % 7, oblique_turn()), 6)
 }
 
@@ -125,77 +101,42 @@ fn whole_cube_turn(i: u64) -> Rotation {
 }
 
 // Group 5: whole-cube turns, with mixes 0, 3, 4 and 7.
-fn whole_cube_case(i: u64) -> Case
-    ensures { result.depth < 16 }
-{
+pub fn whole_cube_case(i: u64) -> Case {
     let mixes = [0, 3, 4, 7];
     let mix = (i % 4) as usize;
     mixed(plain(3, 3, 12, 0, 3, whole_cube_turn(i / 4)), mixes[mix])
 }
 
 // Group 6: each damage, to a smaller target and to one of the same size.
-fn damage_case(i: u64) -> Case
-    ensures { result.depth < 16 }
-{
-    let mut r = mixed(plain(3, 2 + i / 6, 8, 2, 1, oblique_turn()), 5);
-    r.damage = i % 6 + 1;
-    r
+pub fn damage_case(i: u64) -> Case {
+    let damages = [
+        Damage::SourceShort,
+        Damage::SourceLong,
+        Damage::TargetShort,
+        Damage::TargetLong,
+        Damage::LastSamples,
+        Damage::FirstSample,
+    ];
+    let mut case = mixed(plain(3, 2 + i / 6, 8, 2, 1, oblique_turn()), 5);
+    case.damage = damages[(i % 6) as usize];
+    case
 }
 
 // Group 7: codes that name nothing, and the zero turn.
-fn code_case(i: u64) -> Case
-    ensures { result.depth < 16 }
-{
-    let zero = turn_of(0, 0, 0, 0);
-    let mut r = plain(3, 2, 8, 0, 0, oblique_turn());
+pub fn code_case(i: u64) -> Case {
+    let mut case = plain(3, 2, 8, 0, 0, oblique_turn());
     match i {
-        0 => {
-            r.source_format = 2;
-        }
-        1 => {
-            r.target_format = 2;
-        }
-        2 => {
-            r.sampler = 2;
-        }
-        _ => {
-            r.turn = zero;
-        }
+        0 => case.source_format = 2,
+        1 => case.target_format = 2,
+        2 => case.sampler = 2,
+        _ => case.turn = turn_of(0, 0, 0, 0),
     }
-    r
-}
-
-// How many conversions a group has.
-pub fn count_in(group: u64) -> u64 {
-    match group {
-        1 => 112,
-        2 => 64,
-        3 => 32,
-        4 => 98,
-        5 => 32,
-        6 => 12,
-        _ => 4,
-    }
-}
-
-// A conversion of a group.
-pub fn case_at(group: u64, i: u64) -> Case
-    ensures { result.depth < 16 }
-{
-    match group {
-        1 => size_case(i),
-        2 => depth_case(i),
-        3 => turn_number_case(i),
-        4 => layout_case(i),
-        5 => whole_cube_case(i),
-        6 => damage_case(i),
-        _ => code_case(i),
-    }
+    case
 }
 
 // Is this size outside its range?
 fn outside(size: u64) -> bool {
-    (size == 0) | (512 < size)
+    !(1..=512).contains(&size)
 }
 
 // Is this conversion left out? Where a size is outside its range, only mix 0 is tried.

@@ -1,8 +1,12 @@
 // One conversion and the score of its source against its target: both calls, on buffers that are lent as its case says.
 ghost use Rattle.std.specs.Prelude.{◌≡◌, ◌+◌, ◌*◌, ◌^◌, ◌≤◌, ◌<◌, min, length};
 
-use crate::{Case, Outcome, ScoreOutcome};
+use crate::samples::layout;
+use crate::{Case, Damage, Outcome, ScoreOutcome};
 use cubemap::Shape;
+
+// Each byte of the target before the call.
+const UNWRITTEN: u8 = 165;
 
 // The bytes of a frame: two for each of 6·A² samples, and no more than face size 512 has.
 fn frame_bytes(size: u64) -> usize
@@ -15,20 +19,19 @@ fn frame_bytes(size: u64) -> usize
     }
 }
 
-// How many bytes of a frame are lent: one less than it has where it is short, one more where it is long.
-fn lent(size: u64, short: bool, long: bool) -> usize
+// How many bytes of a frame are lent: one less than it has where this damage makes it short, one more where that makes
+// it long.
+fn lent(size: u64, damage: Damage, short: Damage, long: Damage) -> usize
     ensures { result ≤ 3145729 }
 {
     let whole = frame_bytes(size);
-    if long {
-        return whole + 1;
+    if damage == long {
+        whole + 1
+    } else if damage == short {
+        whole.saturating_sub(1)
+    } else {
+        whole
     }
-    if short {
-        if 0 < whole {
-            return whole - 1;
-        }
-    }
-    whole
 }
 
 // The conversion, with the bytes of the layouts and of the two frames: its code.
@@ -58,21 +61,20 @@ fn convert(
     )
 }
 
-// Four bytes of an answer as a number, the low one first.
-fn half_number(answer: &[u8], at: usize) -> u64
-    requires { at + 4 ≤ length answer.now }
-    ensures { result < 2 ^ 32 }
-{
-    let low = frame::wide(answer[at]) + 256 * frame::wide(answer[at + 1]);
-    let high = frame::wide(answer[at + 2]) + 256 * frame::wide(answer[at + 3]);
-    low + 65536 * high
-}
-
 // Eight bytes of an answer as a number, the low one first.
 pub fn number_at(answer: &[u8], at: usize) -> u64
     requires { at + 8 ≤ length answer.now }
 {
-    half_number(answer, at) + 4294967296 * half_number(answer, at + 4)
+    u64::from_le_bytes([
+        answer[at],
+        answer[at + 1],
+        answer[at + 2],
+        answer[at + 3],
+        answer[at + 4],
+        answer[at + 5],
+        answer[at + 6],
+        answer[at + 7],
+    ])
 }
 
 // The score of the source against the target.
@@ -95,7 +97,7 @@ fn score(
         &mut answer,
     );
     ScoreOutcome {
-        code: code,
+        code,
         errors: number_at(&answer, 0),
         weights: number_at(&answer, 8),
     }
@@ -109,7 +111,7 @@ fn convert_and_score(
     source: &[u8],
     target: &mut [u8],
 ) -> Outcome {
-    crate::samples::fill_target(target);
+    target.fill(UNWRITTEN);
     let code = convert(case, source_layout, target_layout, source, target);
     let digest = crate::samples::digest_of(target);
     let shape = Shape {
@@ -118,25 +120,21 @@ fn convert_and_score(
         format: case.target_format,
     };
     let samples = crate::samples::corner_samples(shape, target_layout, target);
-    let scored = score(case, source_layout, target_layout, source, target);
+    let score = score(case, source_layout, target_layout, source, target);
     Outcome {
-        code: code,
-        digest: digest,
-        samples: samples,
-        score: scored,
+        code,
+        digest,
+        samples,
+        score,
     }
 }
 
 // Lends the layouts.
 fn with_layouts(case: Case, source: &[u8], target: &mut [u8]) -> Outcome {
-    let source_layout = crate::samples::layout_bytes(case.source_layout);
-    let source_end = crate::samples::layout_length(case.source_layout);
-    let target_layout = crate::samples::layout_bytes(case.target_layout);
-    let target_end = crate::samples::layout_length(case.target_layout);
     convert_and_score(
         case,
-        &source_layout[..source_end],
-        &target_layout[..target_end],
+        layout(case.source_layout),
+        layout(case.target_layout),
         source,
         target,
     )
@@ -144,11 +142,21 @@ fn with_layouts(case: Case, source: &[u8], target: &mut [u8]) -> Outcome {
 
 // Fills the source, and lends both frames.
 pub fn run(case: Case, source: &mut [u8], target: &mut [u8]) -> Outcome
-    requires { (case.depth < 16) × (length source.old ≡ 3145729) × (length target.old ≡ 3145729) }
+    requires { (length source.old ≡ 3145729) × (length target.old ≡ 3145729) }
 {
     let samples = frame_bytes(case.source_size) / 2;
     crate::samples::fill_source(source, samples, case.depth, case.damage);
-    let source_end = lent(case.source_size, case.damage == 1, case.damage == 2);
-    let target_end = lent(case.target_size, case.damage == 3, case.damage == 4);
+    let source_end = lent(
+        case.source_size,
+        case.damage,
+        Damage::SourceShort,
+        Damage::SourceLong,
+    );
+    let target_end = lent(
+        case.target_size,
+        case.damage,
+        Damage::TargetShort,
+        Damage::TargetLong,
+    );
     with_layouts(case, &source[..source_end], &mut target[..target_end])
 }

@@ -3,11 +3,11 @@ ghost use Rattle.std.specs.Prelude.{◌≡◌, ◌+◌, ◌*◌, ◌≤◌, leng
 
 use crate::{Case, Outcome};
 use cubemap::Rotation;
-use itoa::Buffer;
+use itoa::{Buffer, Integer};
 
-// n in decimal, and a byte behind it.
-fn put_number(text: &mut [u8], at: usize, n: u64, behind: u8) -> usize
-    requires { at + 21 ≤ length text.old }
+// A number in decimal, with a minus sign where it is negative, and a byte behind it.
+pub fn put_number<I: Integer>(text: &mut [u8], at: usize, n: I, behind: u8) -> usize
+    requires { (I.MAX_STR_LEN ≤ 20) × (at + 21 ≤ length text.old) }
     ensures { result ≤ at + 21 }
 {
     let mut digits = Buffer::new();
@@ -17,49 +17,23 @@ fn put_number(text: &mut [u8], at: usize, n: u64, behind: u8) -> usize
 }
 
 // Numbers with a space behind each.
-pub fn put_numbers(text: &mut [u8], at: usize, numbers: &[u64]) -> usize
-    requires { at + 21 * length numbers.now ≤ length text.old }
+pub fn put_numbers<I: Integer>(text: &mut [u8], at: usize, numbers: &[I]) -> usize
+    requires { (I.MAX_STR_LEN ≤ 20) × (at + 21 * length numbers.now ≤ length text.old) }
     ensures { result ≤ at + 21 * length numbers.now }
 {
     let mut end = at;
-    let mut i = 0;
-    while i < numbers.len() {
-        end = put_number(text, end, numbers[i], b' ');
-        i += 1;
+    for &n in numbers {
+        end = put_number(text, end, n, b' ');
     }
     end
 }
 
-// z with a minus sign where it is negative, and a byte behind it.
-pub fn put_signed(text: &mut [u8], at: usize, z: i64, behind: u8) -> usize
-    requires { at + 22 ≤ length text.old }
-    ensures { result ≤ at + 22 }
-{
-    let size = arithmetic::magnitude(z);
-    if z < 0 {
-        text[at] = b'-';
-        return put_number(text, at + 1, size, behind);
-    }
-    put_number(text, at, size, behind)
-}
-
 // The turn's four numbers.
 pub fn put_turn(text: &mut [u8], at: usize, turn: Rotation) -> usize
-    requires { at + 88 ≤ length text.old }
-    ensures { result ≤ at + 88 }
+    requires { at + 84 ≤ length text.old }
+    ensures { result ≤ at + 84 }
 {
-    let second = put_signed(text, at, turn.e0, b' ');
-    let third = put_signed(text, second, turn.e1, b' ');
-    let fourth = put_signed(text, third, turn.e2, b' ');
-    put_signed(text, fourth, turn.e3, b' ')
-}
-
-// Six samples.
-fn put_samples(text: &mut [u8], at: usize, samples: [u64; 6]) -> usize
-    requires { at + 126 ≤ length text.old }
-    ensures { result ≤ at + 126 }
-{
-    put_numbers(text, at, &samples)
+    put_numbers(text, at, &[turn.e0, turn.e1, turn.e2, turn.e3])
 }
 
 // The line of a conversion: a code is the refusal's number plus 256 times its index.
@@ -78,19 +52,17 @@ pub fn put_line(text: &mut [u8], case: Case, outcome: Outcome) -> usize
         case.target_layout,
     ];
     let answer = [
-        case.damage,
+        case.damage as u64,
         outcome.code % 256,
         outcome.code / 256,
         outcome.digest,
     ];
-    let samples = outcome.samples;
     let score = outcome.score;
     let scored = [score.code % 256, score.code / 256, score.errors];
-    let turn = case.turn;
     let turn_at = put_numbers(text, 0, &numbers);
-    let answer_at = put_turn(text, turn_at, turn);
+    let answer_at = put_turn(text, turn_at, case.turn);
     let samples_at = put_numbers(text, answer_at, &answer);
-    let score_at = put_samples(text, samples_at, samples);
+    let score_at = put_numbers(text, samples_at, &outcome.samples);
     let weights_at = put_numbers(text, score_at, &scored);
     put_number(text, weights_at, score.weights, b'\n')
 }

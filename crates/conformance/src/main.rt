@@ -1,21 +1,25 @@
-// Runs a fixed list of conversions through the five calls, scores the source against each target, and prints a line for each, so that what the
-// part gives can be compared byte by byte with what a program that was written from the paper gives. The conversions try each number of a call at the
-// ends of its range and beyond them, each layout with each, whole-cube turns, and damaged buffers. Six calls of fold, equal and look_up follow: with
-// two parameters of such a call exchanged, another text is printed.
+// Runs a fixed list of conversions through the five calls, scores the source against each target, and prints a line for
+// each, so that what the part gives can be compared byte by byte with what a program that was written from the paper
+// gives. The conversions try each number of a call at the ends of its range and beyond them, each layout with each,
+// whole-cube turns, and damaged buffers. Six calls of fold, equal and look_up follow: with two parameters of such a
+// call exchanged, another text is printed.
 //
-// Behind a heading, the line of a conversion holds 26 numbers: source size, target size, depth, source format, target format, sampler, source layout,
-// target layout, the turn's four numbers, damage; then what the conversion answered, the number of its refusal (0 where there is none) and the index,
-// the digest of the target's bytes after the call, and six single samples of it, one of each face; then what a score of the source against the target
-// answered, with the source's size, depth and format: the number of its refusal and the index, and the two numbers in its answer buffer, which are 0
-// where it wrote none.
+// Behind a heading, the line of a conversion holds 26 numbers: source size, target size, depth, source format, target
+// format, sampler, source layout, target layout, the turn's four numbers, damage; then what the conversion answered,
+// the number of its refusal (0 where there is none) and the index, the digest of the target's bytes after the call, and
+// six single samples of it, one of each face; then what a score of the source against the target answered, with the
+// source's size, depth and format: the number of its refusal and the index, and the two numbers in its answer buffer,
+// which are 0 where it wrote none.
 //
-// Layouts: 0 is the usual one; 1, 2 and 3 are valid too; 4 has a face twice, 5 a slot turned four times, 6 only eleven bytes.
+// Layouts: 0 is the usual one; 1, 2 and 3 are valid too; 4 has a face twice, 5 a slot turned four times, 6 only eleven
+// bytes.
 //
-// Damage: 0 none; 1 the source is lent one byte short, 2 one byte more, which is 0; 3 the target is lent one byte short, 4 one byte more;
-// 5 the source's last two samples are 2^D; 6 its first sample is 65535.
+// Damage: 0 none; 1 the source is lent one byte short, 2 one byte more, which is 0; 3 the target is lent one byte
+// short, 4 one byte more; 5 the source's last two samples are 2^D; 6 its first sample is 65535.
 //
-// Behind a second heading, the line of one of the six calls holds its name, the numbers that it was given, the number of its refusal and the index,
-// and the numbers in its answer buffer, which are 0 where it wrote none: four of fold, one of equal, three of look_up.
+// Behind a second heading, the line of one of the six calls holds its name, the numbers that it was given, the number
+// of its refusal and the index, and the numbers in its answer buffer, which are 0 where it wrote none: four of fold,
+// one of equal, three of look_up.
 #![tactic(auto)]
 
 ghost use Rattle.std.specs.Prelude.{◌<◌};
@@ -36,6 +40,18 @@ const ROOM: usize = 3145729;
 // The most bytes of a line, which a conversion's has: 26 numbers, each with a sign, 20 digits and the byte behind them.
 const LINE: usize = 572;
 
+// What is wrong with a conversion's buffers, by its number in the line.
+#[derive(Clone, Copy, PartialEq, Eq)]
+enum Damage {
+    None = 0,
+    SourceShort = 1,
+    SourceLong = 2,
+    TargetShort = 3,
+    TargetLong = 4,
+    LastSamples = 5,
+    FirstSample = 6,
+}
+
 // One conversion, and what is wrong with its buffers.
 #[derive(Clone, Copy)]
 struct Case {
@@ -48,7 +64,8 @@ struct Case {
     source_layout: u64,
     target_layout: u64,
     turn: Rotation,
-    damage: u64,
+    damage: Damage,
+    ghost shallow: { depth < 16 },
 }
 
 // What a score came to: the code that the call returned and the two numbers of its answer.
@@ -59,7 +76,8 @@ struct ScoreOutcome {
     weights: u64,
 }
 
-// What a conversion came to: the code that the call returned, the digest of the target and six of its samples, and the score of the source against it.
+// What a conversion came to: the code that the call returned, the digest of the target and six of its samples, and the
+// score of the source against it.
 #[derive(Clone, Copy)]
 struct Outcome {
     code: u64,
@@ -70,40 +88,38 @@ struct Outcome {
 
 // ---- printing: each function fails where not all was written
 
-// Runs a conversion that is not left out, and prints its line.
+// Runs a conversion, and prints its line.
 fn print_case(
     rt: &impl Print,
     case: Case,
     source: &mut [u8; ROOM],
     target: &mut [u8; ROOM],
-) -> io::Result<()>
-    requires { case.depth < 16 }
-{
-    if cases::left_out(case) {
-        return Ok(());
-    }
+) -> io::Result<()> {
     let mut text = [0u8; LINE];
     let end = lines::put_line(&mut text, case, conversions::run(case, source, target));
     rt.write_all(&text[..end])
 }
 
-// All lines of a group.
-fn print_group(
+// All lines of a group of so many conversions.
+fn print_group<F: Fn(u64) -> Case>(
     rt: &impl Print,
-    group: u64,
+    count: u64,
+    case_at: F,
     source: &mut [u8; ROOM],
     target: &mut [u8; ROOM],
-) -> io::Result<()> {
-    let count = cases::count_in(group);
-    let mut i = 0;
-    while i < count {
-        print_case(rt, cases::case_at(group, i), source, target)?;
-        i += 1;
+) -> io::Result<()>
+    requires { F.IsAlwaysCallable case_at }
+{
+    for i in 0..count {
+        let case = case_at(i);
+        if !cases::left_out(case) {
+            print_case(rt, case, source, target)?;
+        }
     }
     Ok(())
 }
 
-// The heading of the conversions, then the groups 1 to 7.
+// The heading of the conversions, then the seven groups.
 fn print_conversions(
     rt: &impl Print,
     source: &mut [u8; ROOM],
@@ -112,28 +128,22 @@ fn print_conversions(
     rt.write_all(
         b"source target depth formats sampler layouts turn damage number index digest samples score score-index errors weights\n",
     )?;
-    let mut group = 1;
-    while group < 8 {
-        print_group(rt, group, source, target)?;
-        group += 1;
-    }
-    Ok(())
-}
-
-// Makes call i, and prints its line.
-fn print_call(rt: &impl Print, i: u64) -> io::Result<()> {
-    let mut text = [0u8; LINE];
-    let end = calls::put_call(&mut text, i);
-    rt.write_all(&text[..end])
+    print_group(rt, 112, cases::size_case, source, target)?;
+    print_group(rt, 64, cases::depth_case, source, target)?;
+    print_group(rt, 32, cases::turn_number_case, source, target)?;
+    print_group(rt, 98, cases::layout_case, source, target)?;
+    print_group(rt, 32, cases::whole_cube_case, source, target)?;
+    print_group(rt, 12, cases::damage_case, source, target)?;
+    print_group(rt, 4, cases::code_case, source, target)
 }
 
 // The heading of the six calls, then their lines.
 fn print_calls(rt: &impl Print) -> io::Result<()> {
     rt.write_all(b"call parameters number index answer\n")?;
-    let mut i = 0;
-    while i < 6 {
-        print_call(rt, i)?;
-        i += 1;
+    for call in calls::calls() {
+        let mut text = [0u8; LINE];
+        let end = call.put(&mut text);
+        rt.write_all(&text[..end])?;
     }
     Ok(())
 }

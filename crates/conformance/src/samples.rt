@@ -1,10 +1,9 @@
-// The bytes that the calls are lent, and what is read of the target behind them: the source's samples, the target's bytes, layouts.
+// The bytes that the calls are lent, and what is read of the target behind them: the source's samples, the target's
+// bytes, layouts.
 ghost use Rattle.std.specs.Prelude.{◌≡◌, ◌*◌, ◌/◌, ◌%◌, ◌^◌, ◌≤◌, ◌<◌, length};
 
+use crate::Damage;
 use cubemap::{Place, Shape};
-
-// Each byte of the target before the call.
-const UNWRITTEN: u8 = 165;
 
 // The largest prime below 2^32: digests are counted modulo this.
 const MODULUS: u64 = 4294967291;
@@ -28,60 +27,42 @@ fn sample_of(i: u64, depth: u64) -> u64
 }
 
 // The sample at an index of a source of so many samples, with damages 5 and 6.
-fn damaged_sample(i: u64, samples: u64, depth: u64, damage: u64) -> u64
+fn damaged_sample(i: u64, samples: u64, depth: u64, damage: Damage) -> u64
     requires { (i < samples) × (samples < 2 ^ 32) × (depth < 16) }
 {
-    if damage == 5 {
-        if samples <= i + 2 {
-            return levels(depth);
-        }
+    match damage {
+        Damage::LastSamples if samples <= i + 2 => levels(depth),
+        Damage::FirstSample if i == 0 => 65535,
+        _ => sample_of(i, depth),
     }
-    if damage == 6 {
-        if i == 0 {
-            return 65535;
-        }
-    }
-    sample_of(i, depth)
 }
 
 // Fills the source with its samples, and puts a 0 behind them.
-pub fn fill_source(source: &mut [u8], samples: usize, depth: u64, damage: u64)
+pub fn fill_source(source: &mut [u8], samples: usize, depth: u64, damage: Damage)
     requires { (2 * samples < length source.old) × (samples < 2 ^ 32) × (depth < 16) }
 {
-    let mut i = 0;
-    while i < samples {
+    for i in 0..samples {
         let sample = damaged_sample(i as u64, samples as u64, depth, damage);
         frame::put_sample(source, i, sample);
-        i += 1;
     }
     source[2 * samples] = 0;
 }
 
 // ---- the target's bytes
 
-// Every byte of the target as it is before the call.
-pub fn fill_target(target: &mut [u8]) {
-    let mut i = 0;
-    while i < target.len() {
-        target[i] = UNWRITTEN;
-        i += 1;
-    }
-}
-
 // The digest of all bytes, in order.
 pub fn digest_of(bytes: &[u8]) -> u64
     ensures { result < 4294967291 }
 {
     let mut h: u64 = 0;
-    let mut i = 0;
-    while i < bytes.len() {
-        h = (h * 257 + frame::wide(bytes[i]) + 1) % MODULUS;
-        i += 1;
+    for &b in bytes {
+        h = (h * 257 + u64::from(b) + 1) % MODULUS;
     }
     h
 }
 
-// The sample at column 0 in the last row of a face, read through a view of the frame; 0 where shape, layout and bytes are not those of a frame.
+// The sample at column 0 in the last row of a face, read through a view of the frame; 0 where shape, layout and bytes
+// are not those of a frame.
 fn corner_sample(shape: Shape, layout: &[u8], bytes: &[u8], face: u64) -> u64
     requires { face < 6 }
 {
@@ -91,7 +72,7 @@ fn corner_sample(shape: Shape, layout: &[u8], bytes: &[u8], face: u64) -> u64
         return 0;
     }
     let corner = Place {
-        face: face,
+        face,
         column: 0,
         row: shape.size - 1,
     };
@@ -101,32 +82,23 @@ fn corner_sample(shape: Shape, layout: &[u8], bytes: &[u8], face: u64) -> u64
 // The corner samples of the six faces.
 pub fn corner_samples(shape: Shape, layout: &[u8], bytes: &[u8]) -> [u64; 6] {
     let mut samples = [0; 6];
-    let mut face: u64 = 0;
-    while face < 6 {
-        samples[face as usize] = corner_sample(shape, layout, bytes, face);
-        face += 1;
+    for (face, sample) in samples.iter_mut().enumerate() {
+        *sample = corner_sample(shape, layout, bytes, face as u64);
     }
     samples
 }
 
 // ---- layouts
 
-// The faces of the six slots, then their quarter turns.
-pub fn layout_bytes(number: u64) -> [u8; 12] {
+// The bytes that are lent: the faces of the six slots, then their quarter turns.
+pub fn layout(number: u64) -> &'static [u8] {
     match number {
-        0 => [4, 0, 5, 3, 1, 2, 0, 0, 0, 1, 1, 1],
-        1 => [0, 1, 2, 3, 4, 5, 0, 0, 0, 0, 0, 0],
-        2 => [5, 4, 3, 2, 1, 0, 0, 1, 2, 3, 0, 1],
-        3 => [2, 0, 4, 1, 5, 3, 3, 3, 2, 2, 1, 1],
-        4 => [0, 1, 2, 3, 4, 4, 0, 0, 0, 0, 0, 0],
-        5 => [0, 1, 2, 3, 4, 5, 0, 0, 0, 0, 0, 4],
-        _ => [0, 1, 2, 3, 4, 5, 0, 0, 0, 0, 0, 0],
+        0 => &[4, 0, 5, 3, 1, 2, 0, 0, 0, 1, 1, 1],
+        1 => &[0, 1, 2, 3, 4, 5, 0, 0, 0, 0, 0, 0],
+        2 => &[5, 4, 3, 2, 1, 0, 0, 1, 2, 3, 0, 1],
+        3 => &[2, 0, 4, 1, 5, 3, 3, 3, 2, 2, 1, 1],
+        4 => &[0, 1, 2, 3, 4, 4, 0, 0, 0, 0, 0, 0],
+        5 => &[0, 1, 2, 3, 4, 5, 0, 0, 0, 0, 0, 4],
+        _ => &[0, 1, 2, 3, 4, 5, 0, 0, 0, 0, 0],
     }
-}
-
-// How many of its bytes are lent.
-pub fn layout_length(number: u64) -> usize
-    ensures { result ≤ 12 }
-{
-    if number == 6 { 11 } else { 12 }
 }

@@ -2,227 +2,126 @@
 #![tactic(auto)]
 
 ghost use Rattle.std.specs.Prelude.{◌≡◌, length};
-ghost use Rattle.cubemap.specs.Checks.{convert_settings};
-ghost use Rattle.cubemap.specs.Outcomes.{outcome, converted_bytes, convert_answer, convert_outcome, converted_means};
-ghost use Rattle.cubemap.proofs.ConvertChecks.{settings_answer};
+ghost use Rattle.cubemap.specs.Interface.{format_of, sampler_of};
+ghost use Rattle.cubemap.specs.Checks.{target_shape};
+ghost use Rattle.cubemap.specs.Outcomes.{outcome, converted_bytes, convert_outcome, converted_means};
 ghost use Rattle.cubemap.proofs.Passed.{ConvertPassed};
-ghost use Rattle.checks.specs.Asking.{checked_means};
-ghost use Rattle.conversion.specs.Codes.{conversion_of};
+ghost use Rattle.conversion.specs.Asked.{settings_of};
 
-use checks::Checked;
-use cubemap::{Converted, Layout, Refusal, Rotation, Shape};
+use checks::{ask, depth_ok, layout_ok, length_ok, rotation_in_range, rotation_nonzero, size_ok};
+use cubemap::{Format, Refusal, Rotation, Sampler, Shape};
+use cubic::Source;
 use planes::{Conversion, Target};
-use sampling::{Cube, Reading};
+use resampling::Reading;
+use strides::Plane;
 
-// ---- the questions
-
-// Questions 1 to 7: what a call names.
-fn settings_answer(
-    shape: Shape,
-    target_size: u64,
-    target_format: u64,
-    sampler: u64,
-    source_layout: &[u8],
-    target_layout: &[u8],
-    rotation: Rotation,
-) -> Checked
-    ensures { checked_means result ≡ settings_answer
-        (convert_settings shape target_size target_format sampler source_layout.now target_layout.now rotation) }
-{
-    let a1 = checks::ask(
-        Checked::Accepted,
-        checks::size_ok(shape.size),
-        Refusal::FaceSize,
-    );
-    let a2 = checks::ask(a1, checks::size_ok(target_size), Refusal::TargetSize);
-    let a3 = checks::ask(a2, checks::depth_ok(shape.depth), Refusal::Depth);
-    let a4 = checks::ask(
-        a3,
-        checks::codes_ok(shape.format, target_format, sampler),
-        Refusal::Code,
-    );
-    let a5 = checks::ask(
-        a4,
-        checks::layouts_ok(source_layout, target_layout),
-        Refusal::Layout,
-    );
-    let a6 = checks::ask(
-        a5,
-        checks::rotation_in_range(rotation),
-        Refusal::RotationRange,
-    );
-    checks::ask(
-        a6,
-        checks::rotation_nonzero(rotation),
-        Refusal::RotationZero,
-    )
+// What a conversion goes by: the source's shape, the target's size and format, the sampler, the layouts of both, and
+// the rotation. Both ends share the depth.
+#[derive(Clone, Copy)]
+pub struct Settings<'a> {
+    pub source: Shape,
+    pub target_size: u64,
+    pub target_format: u64,
+    pub sampler: u64,
+    pub source_layout: &'a [u8],
+    pub target_layout: &'a [u8],
+    pub rotation: Rotation,
 }
 
-// Questions 1 to 10, in order.
-fn convert_answer(
-    shape: Shape,
-    target_size: u64,
-    target_format: u64,
-    sampler: u64,
-    source_layout: &[u8],
-    target_layout: &[u8],
-    rotation: Rotation,
-    source: &[u8],
-    target_length: usize,
-) -> Checked
-    ensures { checked_means result ≡ convert_answer
-        (convert_settings shape target_size target_format sampler source_layout.now target_layout.now rotation)
-        (length source.now) target_length source.now }
-{
-    let a7 = settings_answer(
-        shape,
-        target_size,
-        target_format,
-        sampler,
-        source_layout,
-        target_layout,
-        rotation,
-    );
-    let target = Shape {
-        size: target_size,
-        depth: shape.depth,
-        format: target_format,
-    };
-    let a8 = checks::ask(
-        a7,
-        checks::length_ok(shape, source.len()),
-        Refusal::FirstLength,
-    );
-    let a9 = checks::ask(
-        a8,
-        checks::length_ok(target, target_length),
-        Refusal::SecondLength,
-    );
-    checks::ask_first_samples(a9, shape, source)
+impl<'a> Settings<'a> {
+    // The target's shape.
+    #[tactic(auto, unfolding(cubemap::specs::Checks::target_shape))]
+    fn target(self) -> Shape
+        ensures { result ≡ target_shape (settings_of self.entry) }
+    {
+        Shape {
+            size: self.target_size,
+            depth: self.source.depth,
+            format: self.target_format,
+        }
+    }
 }
 
 // ---- the frames
 
-// What the plane converter goes by.
-fn conversion_of(
-    shape: Shape,
-    sampler: u64,
-    size: u64,
-    format: u64,
-    layout: Layout,
-    rotation: Rotation,
-) -> Conversion
-    ensures { result ≡ conversion_of shape sampler size format layout rotation }
-{
-    let from = geometry::format_of(shape.format);
-    let to = geometry::format_of(format);
-    let by = sampling::sampler_of(sampler);
-    let source = Reading {
-        cube: Cube {
-            size: shape.size,
-            format: from,
-        },
-        depth: shape.depth,
-        sampler: by,
-    };
-    let target = Target {
-        cube: Cube {
-            size: size,
-            format: to,
-        },
-        layout: layout,
-    };
-    Conversion {
-        source: source,
-        target: target,
-        rotation: rotation,
-    }
-}
-
 // The target's samples, where no question ended the call.
 fn convert_frame(
-    shape: Shape,
-    target_size: u64,
-    target_format: u64,
-    sampler: u64,
-    source_layout: &[u8],
-    target_layout: &[u8],
-    rotation: Rotation,
+    settings: Settings,
+    source_format: Format,
+    target_format: Format,
+    sampler: Sampler,
     source: &[u8],
     target: &mut [u8],
 )
-    requires { ConvertPassed
-        (convert_settings shape target_size target_format sampler source_layout.now target_layout.now rotation)
-        (length source.now) (length target.old) source.now }
-    ensures { target.new ≡ converted_bytes
-        (convert_settings shape target_size target_format sampler source_layout.now target_layout.now rotation)
-        source.now }
+    requires passed { ConvertPassed (settings_of settings) (length source.now) (length target.old) source.now }
+    requires kinds { (source_format ≡ format_of settings.source.format)
+        × (target_format ≡ format_of settings.target_format) × (sampler ≡ sampler_of settings.sampler) }
+    ensures { target.new ≡ converted_bytes (settings_of settings.entry) source.now }
 {
-    let c = conversion_of(
-        shape,
-        sampler,
-        target_size,
-        target_format,
-        frame::layout_of(target_layout),
-        rotation,
+    let strides = strides::face_strides(
+        settings.source.size,
+        frame::layout_of(settings.source_layout),
     );
-    let strides = strides::face_strides(shape.size, frame::layout_of(source_layout));
-    let weights = taps::tap_weights();
-    let coordinates = geometry::face_coordinates(geometry::format_of(target_format), target_size);
-    let columns = target_size as usize;
-    let end = frame::luma_end(target_size);
-    planes::convert_plane(
-        c,
-        frame::luma(source, shape.size),
-        &strides,
-        &weights,
-        &coordinates[0..columns],
-        &mut target[0..end],
-    );
+    let plane = Plane {
+        size: settings.source.size,
+        bytes: frame::luma(source, settings.source.size),
+        strides: &strides,
+    };
+    let read = Source {
+        plane,
+        depth: settings.source.depth,
+    };
+    let c = Conversion {
+        source: Reading {
+            source: read,
+            format: source_format,
+            sampler,
+        },
+        target: Target {
+            size: settings.target_size,
+            format: target_format,
+            layout: frame::layout_of(settings.target_layout),
+        },
+        rotation: settings.rotation,
+    };
+    let coordinates = geometry::face_coordinates(target_format, settings.target_size);
+    let columns = settings.target_size as usize;
+    let end = frame::luma_end(settings.target_size);
+    planes::convert_plane(c, &coordinates[..columns], &mut target[..end]);
 }
 
-// Converts a frame.
-pub fn convert(
-    shape: Shape,
-    target_size: u64,
-    target_format: u64,
-    sampler: u64,
-    source_layout: &[u8],
-    target_layout: &[u8],
-    rotation: Rotation,
-    source: &[u8],
-    target: &mut [u8],
-) -> Converted
-    ensures { outcome (converted_means result) target.new ≡ convert_outcome
-        (convert_settings shape target_size target_format sampler source_layout.now target_layout.now rotation)
+// Converts a frame: asks questions 1 to 10 in order, and then writes every sample of the target.
+#[tactic(auto, unfolding(cubemap::specs::Checks::first_failed, cubemap::specs::Checks::convert_checks, cubemap::specs::Checks::before_samples, cubemap::specs::Checks::size_checks, cubemap::specs::Checks::setting_checks, cubemap::specs::Checks::length_checks, cubemap::specs::Outcomes::convert_answer, cubemap::specs::Outcomes::convert_outcome))]
+pub fn convert(settings: Settings, source: &[u8], target: &mut [u8]) -> Result<(), Refusal>
+    ensures { outcome (converted_means result) target.new ≡ convert_outcome (settings_of settings.entry)
         source.now target.old }
 {
-    let answer = convert_answer(
-        shape,
-        target_size,
+    ask(size_ok(settings.source.size), Refusal::FaceSize)?;
+    ask(size_ok(settings.target_size), Refusal::TargetSize)?;
+    ask(depth_ok(settings.source.depth), Refusal::Depth)?;
+    let source_format = Format::try_from(settings.source.format)?;
+    let target_format = Format::try_from(settings.target_format)?;
+    let sampler = Sampler::try_from(settings.sampler)?;
+    let layouts = layout_ok(settings.source_layout) & layout_ok(settings.target_layout);
+    ask(layouts, Refusal::Layout)?;
+    ask(rotation_in_range(settings.rotation), Refusal::RotationRange)?;
+    ask(rotation_nonzero(settings.rotation), Refusal::RotationZero)?;
+    ask(
+        length_ok(settings.source, source.len()),
+        Refusal::FirstLength,
+    )?;
+    ask(
+        length_ok(settings.target(), target.len()),
+        Refusal::SecondLength,
+    )?;
+    checks::samples_within(settings.source, source).map_err(Refusal::FirstSample)?;
+    convert_frame(
+        settings,
+        source_format,
         target_format,
         sampler,
-        source_layout,
-        target_layout,
-        rotation,
         source,
-        target.len(),
+        target,
     );
-    match answer {
-        Checked::Refused(refused) => Converted::Refused(refused),
-        Checked::Accepted => {
-            convert_frame(
-                shape,
-                target_size,
-                target_format,
-                sampler,
-                source_layout,
-                target_layout,
-                rotation,
-                source,
-                target,
-            );
-            Converted::Accepted
-        }
-    }
+    Ok(())
 }

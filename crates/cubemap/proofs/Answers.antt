@@ -1,8 +1,8 @@
 -- How an answer comes out of a C call: two's complement, numbers in a lent buffer, and what a call gives by its result.
 use mathlib.Core.Path.{◌≡◌, refl, sym, ◌∙◌, ap, subst}
 use mathlib.Core.Bool.{true, false}
-use mathlib.Core.List.{List, [], ◌∷◌, ◌++◌}
-use Prim.Native.Nat.{ℕ, suc, ◌+◌, ◌*◌, ◌-◌, ◌^◌, ◌≤◌, ◌<◌}
+use mathlib.Core.List.{List, [], ◌++◌}
+use Prim.Native.Nat.{ℕ, ◌+◌, ◌*◌, ◌-◌, ◌^◌, ◌≤◌, ◌<◌}
 use native.Mathlib.Omega.{arith}
 use lib.Dec.{T, eqb, ltb→lt}
 use lib.ListN.{length, take, drop}
@@ -48,10 +48,6 @@ put-bits buffer k v = refl
 pub put-none : (buffer : List ℕ) (k : ℕ) → put_all buffer k [] ≡ buffer
 unfolding put_all
 put-none buffer k = refl
-
-pub put_next : (buffer after : List ℕ) (k : ℕ) (v : ℤ) (vs : List ℤ) → after ≡ put_at buffer k v → put_all after (suc k) vs ≡ put_all buffer k (v ∷ vs)
-unfolding put_all
-put_next buffer after k v vs e = ap (λ b. put_all b (suc k) vs) e
 
 -- ---- a refusal has the number of a question
 

@@ -63,10 +63,6 @@ module _ (s : ConvertSettings) (source target : List ℕ) where
   unfolding convert_outcome
   outcome-is a e = ap (λ a. outcome a (cond (is_accepted a) (converted_bytes s source) target)) e
 
-  pub outcome-accepted : accepted ≡ convert_answer s (length source) (length target) source
-      → outcome accepted (converted_bytes s source) ≡ convert_outcome s source target
-  outcome-accepted e = outcome-is accepted e
-
   pub outcome-refused : (q : Refusal) → refusal q ≡ convert_answer s (length source) (length target) source
       → outcome (refusal q) target ≡ convert_outcome s source target
   outcome-refused q e =

@@ -7,14 +7,13 @@ use Prim.Native.Nat.{ℕ, zero, suc, ◌+◌, ◌<◌}
 use native.Mathlib.Decide.{dec_lt}
 use native.Mathlib.Omega.{arith}
 use lib.Dec.{T, eqb, eqb→eq, eqb_refl, leb, leb→le}
-use lib.ListN.{length, drop, get_or, drop_of_length-le, get_or-append}
-use lib.Seq.{drop-cons, get_or-append-add}
+use lib.ListN.{length, drop, get_or, drop_of_length-le}
+use lib.Seq.{drop-cons}
 use Rattle.arithmetic.specs.Searches.{lowest, all_below}
 use Rattle.arithmetic.specs.Sums.{count_below}
 use Rattle.arithmetic.proofs.Tests.{All3, and3}
 use Rattle.arithmetic.proofs.Searches.{Lowest, lowest-is, lowest_from-is, all-at}
 use Rattle.arithmetic.proofs.Sums.{count_none, count-two, each-once}
-use Rattle.cubemap.specs.declared.Layout.{Layout}
 use Rattle.cubemap.specs.Frames.{face_in, quarter_turns_in, layout_bytes, slot_of}
 use Rattle.cubemap.specs.Checks.{layout_ok}
 
@@ -39,12 +38,6 @@ unfolding slot_of
 slot-search L f = refl
 
 -- ---- a layout that has been taken apart
-
-pub face-byte : (l : Layout) (slot : ℕ) → length l.faces ≡ 6 → slot < 6 → face_in (layout_bytes l) slot ≡ get_or l.faces slot 0
-face-byte l slot e h = get_or-append l.faces l.turns 0 slot (omega arith)
-
-pub turns-byte : (l : Layout) (slot : ℕ) → length l.faces ≡ 6 → quarter_turns_in (layout_bytes l) slot ≡ get_or l.turns slot 0
-turns-byte l slot e = ap (λ n. get_or (layout_bytes l) (n + slot) 0) (sym e) ∙ get_or-append-add l.faces l.turns slot 0
 
 -- n bytes of L, from byte i on
 abbrev bytes_from : List ℕ → ℕ → ℕ → List ℕ

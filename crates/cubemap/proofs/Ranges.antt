@@ -1,5 +1,5 @@
 -- Checks 6, 7, 13 and 14 as facts about the sizes of a rotation's and a ray's numbers.
-use mathlib.Core.Path.{◌≡◌, refl, subst}
+use mathlib.Core.Path.{◌≡◌, subst}
 use mathlib.Core.Bool.{Bool, ◌&&◌, not}
 use Prim.Native.Nat.{ℕ, ◌≤◌}
 use native.Mathlib.Nat.{le_trans}
@@ -8,7 +8,7 @@ use lib.IntN.{ℤ, nat_abs}
 use Rattle.arithmetic.proofs.Tests.{All3, and3, all3, All4, and4, all4}
 use Rattle.cubemap.specs.declared.Ray.{Ray}
 use Rattle.cubemap.specs.declared.Rotation.{Rotation}
-use Rattle.cubemap.specs.Checks.{rotation_in_range, rotation_nonzero, ray_in_range, ray_nonzero}
+use Rattle.cubemap.specs.Checks.{rotation_in_range, ray_in_range, ray_nonzero}
 
 -- the four numbers of a rotation have sizes of at most B
 pub record Within (B : ℕ) (t : Rotation) : Type 0 where
@@ -48,20 +48,9 @@ in-range-rotation t w = all4 (small 31 t.e0) (small 31 t.e1) (small 31 t.e2) (sm
     (le→leb (nat_abs t.e0) 31 w.s0) (le→leb (nat_abs t.e1) 31 w.s1)
     (le→leb (nat_abs t.e2) 31 w.s2) (le→leb (nat_abs t.e3) 31 w.s3)
 
--- the tests that code makes
-pub rotation-range-tests : (t : Rotation)
-    → rotation_in_range t ≡ (small 31 t.e0 && small 31 t.e1 && small 31 t.e2 && small 31 t.e3)
-unfolding rotation_in_range
-rotation-range-tests t = refl
-
 -- 7
 abbrev is_zero : ℤ → Bool
 is_zero x = eqb (nat_abs x) 0
-
-pub rotation-nonzero-tests : (t : Rotation)
-    → rotation_nonzero t ≡ not (is_zero t.e0 && is_zero t.e1 && is_zero t.e2 && is_zero t.e3)
-unfolding rotation_nonzero
-rotation-nonzero-tests t = refl
 
 -- 13
 abbrev farthest : ℕ
@@ -82,15 +71,6 @@ pub in-range-ray : (v : Ray) → RayWithin 536870911 v → T (ray_in_range v)
 unfolding ray_in_range
 in-range-ray v w = all3 (small farthest v.x) (small farthest v.y) (small farthest v.z)
     (le→leb (nat_abs v.x) farthest w.x) (le→leb (nat_abs v.y) farthest w.y) (le→leb (nat_abs v.z) farthest w.z)
-
-pub ray-range-tests : (v : Ray) → ray_in_range v ≡ (small farthest v.x && small farthest v.y && small farthest v.z)
-unfolding ray_in_range
-ray-range-tests v = refl
-
--- 14
-pub ray-nonzero-tests : (v : Ray) → ray_nonzero v ≡ not (is_zero v.x && is_zero v.y && is_zero v.z)
-unfolding ray_nonzero
-ray-nonzero-tests v = refl
 
 pub ray-not-zero : (v : Ray) → T (ray_nonzero v) → nat_abs v.x ≡ 0 → nat_abs v.y ≡ 0 → nat_abs v.z ≡ 0 → ⊥
 unfolding ray_nonzero

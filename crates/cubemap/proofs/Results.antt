@@ -7,7 +7,7 @@ use lib.IntN.{ℤ}
 use Rattle.cubemap.specs.declared.Ray.{Ray}
 use Rattle.cubemap.specs.declared.Refusal.{Refusal}
 use Rattle.cubemap.specs.declared.Rotation.{Rotation}
-use Rattle.cubemap.specs.Interface.{format_of, Answer, accepted}
+use Rattle.cubemap.specs.Interface.{format_of, Answer}
 use Rattle.cubemap.specs.Frames.{sample_at_place}
 use Rattle.cubemap.specs.Rotations.{compose, same_rotation}
 use Rattle.cubemap.specs.RayToPlace.{locate}
@@ -21,9 +21,6 @@ use Rattle.cubemap.proofs.Answers.{not-accepted}
 
 pub refused-gives : (q : Refusal) {a : Answer} (vs : List ℤ) → refusal q ≡ a → refused q ≡ if_accepted a vs
 refused-gives q vs e = ap (λ b. result (refusal q) (cond b vs [])) (sym (not-accepted q)) ∙ ap (λ a. if_accepted a vs) e
-
-pub accepted-gives : {a : Answer} (vs : List ℤ) → accepted ≡ a → result accepted vs ≡ if_accepted a vs
-accepted-gives vs e = ap (λ a. if_accepted a vs) e
 
 -- ---- of each
 

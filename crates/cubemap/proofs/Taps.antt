@@ -1,7 +1,7 @@
 -- The places that taps read. A tap inside the face reads its own place, and every tap reads a place; what happens at the rim, only this module knows.
 use mathlib.Core.Path.{◌≡◌, refl, sym, ap₂, subst}
 use mathlib.Core.Bool.{true}
-use Prim.Native.Nat.{ℕ, ◌-◌, ◌≤◌, ◌<◌}
+use Prim.Native.Nat.{ℕ, ◌≤◌, ◌<◌}
 use native.Mathlib.Omega.{arith}
 use lib.Dec.{T, ltb→lt}
 use lib.IntN.{ℤ, pos, negsuc}
@@ -21,9 +21,6 @@ clip-inside n m h = omega arith
 pub clip-negative : (n : ℕ) (z : ℤ) → lt_z z (pos 0) ≡ true → clip n z ≡ 0
 clip-negative n (pos m) e = let h = ltb→lt m 0 (subst T (sym e) tt) in absurd (omega arith)
 clip-negative n (negsuc m) e = refl
-
-pub clip-beyond : (n m : ℕ) → n ≤ m → clip n (pos m) ≡ n - 1
-clip-beyond n m h = omega arith
 
 -- ---- the place of a tap
 

@@ -1,17 +1,15 @@
 -- What each call gives for every input: its number and index, its values, and the bytes of the buffer that it writes.
 -- "For every input the promise covers the number, the index and each byte of lent memory afterwards"
-use Rattle.std.specs.Prelude.{Bool, cond, List, [], ◌∷◌, ℕ, length, ℤ, pos}
-use Rattle.cubemap.specs.declared.Compared.{Compared}
-use Rattle.cubemap.specs.declared.Converted.{Converted}
-use Rattle.cubemap.specs.declared.Folded.{Folded}
+use Rattle.std.specs.Prelude.{Bool, cond, List, [], ◌∷◌, ℕ, length, ℤ, pos, Result as Returned, Ok, Err}
+use Rattle.cubemap.specs.declared.Format.{Format}
 use Rattle.cubemap.specs.declared.Located.{Located}
-use Rattle.cubemap.specs.declared.LookedUp.{LookedUp}
 use Rattle.cubemap.specs.declared.Place.{Place}
 use Rattle.cubemap.specs.declared.Ray.{Ray}
 use Rattle.cubemap.specs.declared.Refusal.{Refusal}
 use Rattle.cubemap.specs.declared.Rotation.{Rotation}
-use Rattle.cubemap.specs.declared.Scored.{Scored}
+use Rattle.cubemap.specs.declared.Sampler.{Sampler}
 use Rattle.cubemap.specs.declared.Shape.{Shape}
+use Rattle.cubemap.specs.declared.Sums.{Sums}
 use Rattle.cubemap.specs.Interface.{format_of, sampler_of, Answer, answer, accepted, is_accepted, put_all}
 use Rattle.cubemap.specs.Frames.{sample_at_place, plane_of}
 use Rattle.cubemap.specs.PlaceToRay.{ray_of}
@@ -19,7 +17,7 @@ use Rattle.cubemap.specs.Rotations.{rotated, compose, same_rotation}
 use Rattle.cubemap.specs.RayToPlace.{locate}
 use Rattle.cubemap.specs.Samplers.{sample_from}
 use Rattle.cubemap.specs.Score.{error_sum, weight_sum}
-use Rattle.cubemap.specs.Checks.{ConvertSettings, ScoreSettings, first_failed, convert_checks, score_checks, fold_checks, equal_checks, look_up_checks}
+use Rattle.cubemap.specs.Checks.{ConvertSettings, ScoreSettings, code_ok, first_failed, convert_checks, score_checks, fold_checks, equal_checks, look_up_checks}
 
 -- ---- what a call answers, and what it leaves in the buffer that it writes
 
@@ -125,7 +123,8 @@ look_up_result A format v = if_accepted (first_failed (look_up_checks A format v
 abbrev pub look_up_outcome : ℕ → ℕ → Ray → List ℕ → Outcome
 look_up_outcome A format v buffer = written (look_up_result A format v) buffer
 
--- ---- "Where an answer is an enum, a definition states this paper's number and values for each of its cases"
+-- ---- "Where an answer is an enum, a definition states this paper's number and values for each of its cases": `Ok` brings
+-- the values of an accepted call, `Err` the refusal
 
 abbrev pub refusal : Refusal → Answer
 refusal Refusal.FaceSize = answer 1 0
@@ -148,22 +147,30 @@ refusal Refusal.RecordCut = answer 16 0
 abbrev pub refused : Refusal → Result
 refused r = result (refusal r) []
 
-abbrev pub converted_means : Converted → Answer
-converted_means Converted.Accepted = accepted
-converted_means (Converted.Refused r) = refusal r
+abbrev pub converted_means : Returned Unit Refusal → Answer
+converted_means (Ok done) = accepted
+converted_means (Err r) = refusal r
 
-abbrev pub scored_means : Scored → Result
-scored_means (Scored.Sums errors weights) = result accepted (score_values errors weights)
-scored_means (Scored.Refused r) = refused r
+abbrev pub scored_means : Returned Sums Refusal → Result
+scored_means (Ok s) = result accepted (score_values s.errors s.weights)
+scored_means (Err r) = refused r
 
-abbrev pub folded_means : Folded → Result
-folded_means (Folded.Composed t) = result accepted (fold_values t)
-folded_means (Folded.Refused r) = refused r
+abbrev pub folded_means : Returned Rotation Refusal → Result
+folded_means (Ok t) = result accepted (fold_values t)
+folded_means (Err r) = refused r
 
-abbrev pub compared_means : Compared → Result
-compared_means (Compared.Equal b) = result accepted (equal_values b)
-compared_means (Compared.Refused r) = refused r
+abbrev pub compared_means : Returned Bool Refusal → Result
+compared_means (Ok b) = result accepted (equal_values b)
+compared_means (Err r) = refused r
 
-abbrev pub looked_up_means : LookedUp → Result
-looked_up_means (LookedUp.At p) = result accepted (look_up_values p)
-looked_up_means (LookedUp.Refused r) = refused r
+abbrev pub looked_up_means : Returned Located Refusal → Result
+looked_up_means (Ok p) = result accepted (look_up_values p)
+looked_up_means (Err r) = refused r
+
+-- ---- what a code that a call names stands for; check 4 refuses every code but 0 and 1
+
+abbrev pub format_named : ℕ → Returned Format Refusal
+format_named code = cond (code_ok code) (Ok (format_of code)) (Err Refusal.Code)
+
+abbrev pub sampler_named : ℕ → Returned Sampler Refusal
+sampler_named code = cond (code_ok code) (Ok (sampler_of code)) (Err Refusal.Code)

@@ -1,6 +1,10 @@
 // The shared types of the part. What their numbers mean stands in specs/, one module for each section of the paper.
 #![tactic(auto)]
 
+mod codes;
+
+pub use codes::{format_of, sampler_of};
+
 // The two formats of faces: plain (CMP, code 0) and adjusted (ACP, code 1).
 #[derive(Clone, Copy)]
 pub enum Format {
@@ -47,7 +51,7 @@ pub struct Ray {
 }
 
 // A rotation (the paper's turn): four whole numbers, a quaternion that is not divided by its length.
-#[derive(Clone, Copy)]
+#[derive(Clone, Copy, PartialEq, Eq)]
 pub struct Rotation {
     pub e0: i64,
     pub e1: i64,
@@ -63,7 +67,8 @@ pub struct Located {
     pub row: i64,
 }
 
-// A refusal (the paper's "no"): a case for each question, 1 to 16. Questions 10 and 11 bring the lowest offending index, which is below 6·512².
+// A refusal (the paper's "no"): a case for each question, 1 to 16. Questions 10 and 11 bring the lowest offending
+// index, which is below 6·512².
 #[derive(Clone, Copy)]
 pub enum Refusal {
     FaceSize,
@@ -84,37 +89,9 @@ pub enum Refusal {
     RecordCut,
 }
 
-// What convert answers. What it writes goes into the target's buffer.
+// The two sums of a score: the weighted error sum and the sum of the weights.
 #[derive(Clone, Copy)]
-pub enum Converted {
-    Accepted,
-    Refused(Refusal),
-}
-
-// What score answers: the weighted error sum and the sum of the weights.
-#[derive(Clone, Copy)]
-pub enum Scored {
-    Sums { errors: u64, weights: u64 },
-    Refused(Refusal),
-}
-
-// What fold answers: the folded rotation.
-#[derive(Clone, Copy)]
-pub enum Folded {
-    Composed(Rotation),
-    Refused(Refusal),
-}
-
-// What the test of two rotations for equality answers.
-#[derive(Clone, Copy)]
-pub enum Compared {
-    Equal(bool),
-    Refused(Refusal),
-}
-
-// What look-up answers, and what a record of the listing comes to.
-#[derive(Clone, Copy)]
-pub enum LookedUp {
-    At(Located),
-    Refused(Refusal),
+pub struct Sums {
+    pub errors: u64,
+    pub weights: u64,
 }

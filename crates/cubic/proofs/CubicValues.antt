@@ -21,8 +21,7 @@ use Rattle.cubemap.proofs.Taps.{tap_place-inside}
 use Rattle.strides.specs.declared.Strides.{Strides}
 use Rattle.strides.specs.FaceStrides.{strides_in, exchanged, sample_on_face, sample_by}
 use Rattle.strides.proofs.StrideIndices.{exchanged-sample}
-use Rattle.taps.specs.declared.Weights.{Weights}
-use Rattle.taps.specs.TapWeights.{weights_of, grid_sum}
+use Rattle.taps.specs.TapWeights.{TapWeights, weights_of, grid_sum}
 use Rattle.taps.proofs.TapSums.{grid-cong, grid-exchanged}
 use Rattle.cubic.specs.PositionTables.{position_of, position_in}
 use Rattle.cubic.specs.InsideTaps.{first_tap, in_face, taps_inside, inside_tap, inside_value, Stored, StoredInside}
@@ -33,12 +32,12 @@ abbrev pub tapped : (Place → ℕ) → ℕ → ℕ → ℤ → ℤ → ℕ → 
 tapped sample A f x y j i = sample (tap_place A f (x +ℤ pos i) (y +ℤ pos j))
 
 -- the weights at a position
-abbrev pub weights_for : ℕ → Weights
+abbrev pub weights_for : ℕ → TapWeights
 weights_for n = weights_of (phase (position_of n))
 
 -- the sum by the weights of both phases, over the taps from the first on, rounded and clipped
 module _ (A D f : ℕ) (sample : Place → ℕ) (x y : ℕ) where
-  pub cubic-is : {w u : Weights} {z : ℤ} → u ≡ weights_for x → w ≡ weights_for y
+  pub cubic-is : {w u : TapWeights} {z : ℤ} → u ≡ weights_for x → w ≡ weights_for y
       → z ≡ grid_sum w u (tapped sample A f (first_tap x) (first_tap y))
       → clip (2 ^ D) (rounded z) ≡ sample_from Sampler.Cubic A D sample (located f (position_of x) (position_of y))
   cubic-is e d g =
@@ -84,7 +83,7 @@ tap-inside A f x y i j p q t =
 -- ---- their value
 
 -- by the strides of face f in a table
-inside-on-face : (A D f : ℕ) (plane : List ℕ) (table : List ℤ) (s : Strides) → s ≡ strides_in table f → (x y : ℕ)
+inside-on-face : (A D f : ℕ) (plane : List ℕ) (table : List Strides) (s : Strides) → s ≡ strides_in table f → (x y : ℕ)
     → T (taps_inside A x y)
     → inside_value plane s D x y
     ≡ sample_from Sampler.Cubic A D (sample_by plane table) (located f (position_of x) (position_of y))
@@ -138,7 +137,7 @@ module _ {A D : ℕ} {plane : List ℕ} {s : Strides} {columns rows before after
         (and_right (in_face A y) (in_face A x) t) (and_left (in_face A y) (in_face A x) t);
   }
 
-  pub stored-on-face : (f : ℕ) (table : List ℤ) → s ≡ strides_in table f
+  pub stored-on-face : (f : ℕ) (table : List Strides) → s ≡ strides_in table f
       → StoredInside A D plane s columns rows from to before after
       → Stored (λ j. sample_from Sampler.Cubic A D (sample_by plane table)
       (located f (position_in columns j) (position_in rows j))) from to before after

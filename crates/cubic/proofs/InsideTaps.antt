@@ -5,24 +5,20 @@ use mathlib.Core.Bool.{Bool, true, false, cond}
 use mathlib.Core.List.{List, [], ◌∷◌}
 use Prim.Native.Nat.{ℕ, ◌+◌, ◌-◌, ◌<◌}
 use native.Mathlib.Omega.{arith}
-use lib.Dec.{T, eqb→eq}
-use borrow.Author.Tests.{eq-eqb}
+use lib.Dec.{T}
 use lib.IntN.{ℤ, pos, neg_ℤ, nat_abs, ◌+ℤ◌, ◌*ℤ◌}
 use lib.Signed.{non_neg}
-use mir.Syntax.{w64}
-use mir.Val.{of_z}
 use Rattle.arithmetic.specs.Integers.{natural, equalℤ}
 use Rattle.arithmetic.proofs.Sizes.{pos_inj, equalℤ→eq}
-use Rattle.arithmetic.proofs.Tests.{passes, fails, cond-true, cond-false, cond_both}
+use Rattle.arithmetic.proofs.Tests.{passes, fails, cond-true, cond_both}
 use Rattle.arithmetic.proofs.Ring.{var, con, ◌⊕◌, ◌⊗◌, ⊖, solve}
 use Rattle.cubemap.specs.Frames.{sample_at}
 use Rattle.strides.specs.declared.Strides.{Strides}
-use Rattle.strides.specs.FaceStrides.{index_by, Contiguous, Shallow, StridedFace, sample_on_face, exchanged, runs_along}
-use Rattle.strides.proofs.StrideIndices.{not_negative, strides-unbroken, not-ahead, stride-ahead, stride_back}
-use Rattle.taps.specs.declared.Weights.{Weights}
-use Rattle.taps.specs.TapWeights.{reversed, grid_sum}
+use Rattle.strides.specs.FaceStrides.{index_by, Contiguous, Shallow, StridedFace, sample_on_face}
+use Rattle.strides.proofs.StrideIndices.{not_negative, strides-unbroken, not-ahead}
+use Rattle.taps.specs.TapWeights.{TapWeights, reversed, grid_sum}
 use Rattle.taps.proofs.TapSums.{grid-cong, grid-reversed}
-use Rattle.cubic.specs.InsideTaps.{first_tap, taps_inside, ahead, first_of, first_index, interior_first, RowsIn}
+use Rattle.cubic.specs.InsideTaps.{first_tap, taps_inside, ahead, first_of, first_index, RowsIn}
 
 -- ---- ahead, or back
 
@@ -51,24 +47,6 @@ pub first-is : (A : ℕ) (s : Strides) (x y first : ℕ) → first ≡ first_ind
     → first ≡ natural (index_by s (first_of s (natural (first_tap x))) (natural (first_tap y)))
 first-is A s x y first e t = e ∙ cond-true (taps_inside A x y)
     (natural (index_by s (first_of s (natural (first_tap x))) (natural (first_tap y)))) 4294967295 t
-
--- the rows of a face run along the rows of the frame, or its columns do
-pub rows-along : (A : ℕ) (s : Strides) → Contiguous s → (x y : ℕ) → interior_first A s x y ≡ first_index A s x y
-rows-along A s l x y =
-    cond-true (runs_along s) (first_index A s x y) (first_index A (exchanged s) y x)
-    (passes (eq-eqb (nat_abs s.column) 1 l))
-
-pub columns-along : (A : ℕ) (s : Strides) → (Contiguous s → ⊥) → (x y : ℕ)
-    → interior_first A s x y ≡ first_index A (exchanged s) y x
-columns-along A s n x y = cond-false (runs_along s) (first_index A s x y) (first_index A (exchanged s) y x)
-    (λ t. n (eqb→eq (nat_abs s.column) 1 t))
-
--- what the machine reads of a column stride
-pub reads-ahead : (s : Strides) → Contiguous s → of_z w64 s.column ≡ 1 → T (ahead s)
-reads-ahead s l e = subst (λ z. T (equalℤ z (pos 1))) (sym (stride-ahead s l e)) tt
-
-pub reads-back : (s : Strides) → Contiguous s → (of_z w64 s.column ≡ 1 → ⊥) → T (ahead s) → ⊥
-reads-back s l f t = subst (λ z. T (equalℤ z (pos 1))) (stride_back s l f) t
 
 -- rows further down
 index-down : (s : Strides) (m n j : ℕ) → index_by s m (n + j) ≡ index_by s m n +ℤ pos j *ℤ s.row
@@ -111,7 +89,7 @@ module _ {A : ℕ} {plane : List ℕ} {s : Strides} (p : StridedFace A plane s) 
     ahead_in : RowsIn plane (index_by s m n) s.row
     ahead_in = rows m (λ i. m + i) (omega arith) (λ i l. omega arith) ahead-row
 
-    ahead-sum : (w u : Weights)
+    ahead-sum : (w u : TapWeights)
         → grid_sum w u (λ j i. sample_at plane (start m j + i)) ≡ grid_sum w u (λ j i. sample_on_face plane s (m + i) (n + j))
     ahead-sum w u = grid-cong w u _ _ (λ i j l g. ap (sample_at plane) (ahead-row i j l g))
 
@@ -141,7 +119,7 @@ module _ {A : ℕ} {plane : List ℕ} {s : Strides} (p : StridedFace A plane s) 
     back_in : RowsIn plane (index_by s (m + 3) n) s.row
     back_in = rows (m + 3) (λ i. m + (3 - i)) h (λ i l. omega arith) back-row
 
-    back_sum : (w u : Weights)
+    back_sum : (w u : TapWeights)
         → grid_sum w (reversed u) (λ j i. sample_at plane (start (m + 3) j + i)) ≡ grid_sum w u (λ j i. sample_on_face plane s (m + i) (n + j))
     back_sum w u =
         grid-cong w (reversed u) _ (λ j i. sample_on_face plane s (m + (3 - i)) (n + j)) (λ i j l g. ap (sample_at plane) (back-row i j l g))
@@ -157,7 +135,7 @@ module _ {A : ℕ} {plane : List ℕ} {s : Strides} (p : StridedFace A plane s) 
         go true e = ahead_in (is-ahead s.column e)
         go false e = back_in (is-back s.column l e)
 
-    pub run-sum : (w u : Weights)
+    pub run-sum : (w u : TapWeights)
         → grid_sum w (cond (ahead s) u (reversed u)) (λ j i. sample_at plane (start (first_of s m) j + i))
         ≡ grid_sum w u (λ j i. sample_on_face plane s (m + i) (n + j))
     run-sum w u = go (ahead s) refl

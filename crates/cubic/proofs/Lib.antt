@@ -1,6 +1,6 @@
 pub mod PositionTables
-mod Sources
 pub mod Storing
 mod CubicValues
 mod TapRows
 mod InsideTaps
+pub mod Along

@@ -6,7 +6,7 @@ use Rattle.cubemap.specs.Frames.{sample_at}
 use Rattle.cubemap.specs.Samplers.{phase, tap_at, clip, rounded}
 use Rattle.frame.specs.Placing.{placed}
 use Rattle.strides.specs.declared.Strides.{Strides}
-use Rattle.strides.specs.FaceStrides.{index_by, exchanged, runs_along, sample_on_face}
+use Rattle.strides.specs.FaceStrides.{index_by, sample_on_face}
 use Rattle.taps.specs.TapWeights.{weights_of, grid_sum}
 use Rattle.cubic.specs.PositionTables.{position_of}
 
@@ -40,10 +40,6 @@ first_of s m = cond (ahead s) m (m + 3)
 abbrev pub first_index : ℕ → Strides → ℕ → ℕ → ℕ
 first_index A s x y = cond (taps_inside A x y)
     (natural (index_by s (first_of s (natural (first_tap x))) (natural (first_tap y)))) 4294967295
-
--- the same with columns and rows exchanged where the columns of the face run along the rows of the frame
-abbrev pub interior_first : ℕ → Strides → ℕ → ℕ → ℕ
-interior_first A s x y = cond (runs_along s) (first_index A s x y) (first_index A (exchanged s) y x)
 
 -- a plane has four rows of four samples side by side, the first from the index z on, each a stride d from the one
 -- before, and all below 2^12

@@ -1,3 +1,3 @@
 pub mod PositionTables
-pub mod Sources
 pub mod InsideTaps
+pub mod Stretches

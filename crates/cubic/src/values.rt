@@ -2,7 +2,8 @@
 ghost use Rattle.std.specs.Prelude.{◌≡◌, ◌^◌, ◌≤◌, ◌<◌, T, pos, nat_abs};
 ghost use Rattle.cubemap.specs.Checks.{depth_ok};
 ghost use Rattle.cubemap.specs.Samplers as paper;
-ghost use Rattle.taps.specs.TapWeights.{IsWeights, weights_of, Balanced};
+ghost use Rattle.taps.specs.TapWeights.{weights_of};
+ghost use Rattle.taps.specs.InOrder.{in_order};
 ghost use Rattle.cubic.specs.PositionTables.{position_of};
 ghost use Rattle.cubic.specs.InsideTaps.{first_tap};
 
@@ -18,11 +19,10 @@ fn phase_of(n: u32) -> u64
 }
 
 // The weights of the four taps.
-pub fn weights_at(table: &[i64; 256], n: u32) -> Weights
-    requires { IsWeights table.now }
-    ensures { (result ≡ weights_of (paper.phase (position_of n))) × Balanced result }
+pub fn weights_at(n: u32) -> Weights
+    ensures { in_order result ≡ weights_of (paper.phase (position_of n)) }
 {
-    taps::weights_of(table, phase_of(n))
+    Weights::at(phase_of(n))
 }
 
 // The column, or row, of the first tap. The quotient is one more than the base.
@@ -40,11 +40,7 @@ pub fn clip(n: u64, z: i64) -> u64
     requires { 1 ≤ n }
     ensures { (result ≡ paper.clip n z) × (result < n) }
 {
-    if z < 0 {
-        return 0;
-    }
-    let m = z as u64;
-    if m < n { m } else { n - 1 }
+    (z.max(0) as u64).min(n - 1)
 }
 
 // The sum divided by 2^38 and rounded: 2^37 is half of the divisor.
@@ -60,6 +56,5 @@ pub fn value_of(depth: u64, sum: i64) -> u64
     requires { T (depth_ok depth) × (nat_abs sum ≤ 2 ^ 58) }
     ensures { (result ≡ paper.clip (2 ^ depth) (paper.rounded sum)) × (result < 65536) }
 {
-    let value = rounded(sum);
-    clip(frame::sample_bound(depth), value)
+    clip(frame::sample_bound(depth), rounded(sum))
 }

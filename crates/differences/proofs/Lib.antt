@@ -1,2 +1,2 @@
-pub mod ScoredPlanes
 mod Adding
+mod Squares

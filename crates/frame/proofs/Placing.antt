@@ -14,8 +14,8 @@ use Rattle.cubemap.proofs.Framed.{framed-none, framed-next, framed-length, frame
 use Rattle.frame.specs.Placing.{placed}
 
 -- where all bytes were lent, they are those that come back
-pub put_whole : (bytes new : List ℕ) (n : ℕ) → length bytes ≡ n → put_mid 0 (n - 0) bytes new ≡ new
-put_whole bytes new n e = ap (λ x. new ++ x) (drop_of_length-le bytes {i = n - 0} (omega arith)) ∙ append-nil new
+pub put_whole : (bytes new : List ℕ) (n : ℕ) → length bytes ≡ n → put_mid 0 n bytes new ≡ new
+put_whole bytes new n e = ap (λ x. new ++ x) (drop_of_length-le bytes {i = n} (omega arith)) ∙ append-nil new
 
 module _ (w : ℕ) where
   -- the bytes up to the n-th number placed

@@ -1,7 +1,7 @@
 // Frames in code: samples, planes and layouts.
 #![tactic(auto)]
 
-ghost use Rattle.std.specs.Prelude.{◌≡◌, ◌+◌, ◌*◌, ◌^◌, ◌≤◌, ◌<◌, T, length};
+ghost use Rattle.std.specs.Prelude.{◌≡◌, ◌+◌, ◌*◌, ◌^◌, ◌≤◌, ◌<◌, T, length, MatchOption};
 ghost use Rattle.std.proofs.lemmas.List.Edits.{sets};
 ghost use Rattle.cubemap.specs.Interface.{little_endian};
 ghost use Rattle.cubemap.specs.Frames.{sample_at, plane_samples, layout_bytes, face_in, quarter_turns_in, slot_of};
@@ -12,19 +12,12 @@ use cubemap::Layout;
 
 // ---- samples
 
-// A byte as a number, with its bound.
-pub fn wide(x: u8) -> u64
-    ensures { (result ≡ x) × (result < 256) }
-{
-    x as u64
-}
-
 // The sample at an index.
 pub fn sample(bytes: &[u8], index: usize) -> u64
     requires { 2 * index + 1 < length bytes.now }
     ensures { (result ≡ sample_at bytes.now index) × (result < 65536) }
 {
-    wide(bytes[2 * index]) + 256 * wide(bytes[2 * index + 1])
+    u64::from(u16::from_le_bytes([bytes[2 * index], bytes[2 * index + 1]]))
 }
 
 // Stores a sample at an index. Every other byte stays.
@@ -32,8 +25,7 @@ pub fn put_sample(bytes: &mut [u8], index: usize, value: u64)
     requires { 2 * index + 1 < length bytes.old }
     ensures { bytes.new ≡ sets bytes.old (2 * index) (little_endian 2 value) }
 {
-    let low = (value % 256) as u8;
-    let high = (value / 256 % 256) as u8;
+    let [low, high, ..] = value.to_le_bytes();
     bytes[2 * index] = low;
     bytes[2 * index + 1] = high;
 }
@@ -72,11 +64,9 @@ pub fn layout_of(bytes: &[u8]) -> Layout
     requires { length bytes.now ≡ 12 }
     ensures { layout_bytes result ≡ bytes.now }
 {
-    let faces = [bytes[0], bytes[1], bytes[2], bytes[3], bytes[4], bytes[5]];
-    let turns = [bytes[6], bytes[7], bytes[8], bytes[9], bytes[10], bytes[11]];
     Layout {
-        faces: faces,
-        turns: turns,
+        faces: [bytes[0], bytes[1], bytes[2], bytes[3], bytes[4], bytes[5]],
+        turns: [bytes[6], bytes[7], bytes[8], bytes[9], bytes[10], bytes[11]],
     }
 }
 
@@ -85,8 +75,7 @@ pub fn face_in(layout: Layout, slot: u64) -> u64
     requires { slot < 6 }
     ensures { result ≡ face_in (layout_bytes layout) slot }
 {
-    let faces = layout.faces;
-    wide(faces[slot as usize])
+    u64::from(layout.faces[slot as usize])
 }
 
 // The count of quarter turns of a slot.
@@ -94,20 +83,18 @@ pub fn turns_in(layout: Layout, slot: u64) -> u64
     requires { slot < 6 }
     ensures { result ≡ quarter_turns_in (layout_bytes layout) slot }
 {
-    let turns = layout.turns;
-    wide(turns[slot as usize])
+    u64::from(layout.turns[slot as usize])
 }
 
-// The slot that holds a face; 6 where none does.
-pub fn slot_of(layout: Layout, face: u64) -> u64
-    ensures { (result ≡ slot_of (layout_bytes layout) face) × (result ≤ 6) }
+// The slot that holds a face.
+pub fn slot_of(layout: Layout, face: u64) -> Option<u64>
+    ensures { MatchOption result (slot_of (layout_bytes layout) face ≡ 6)
+        (λ slot. (slot ≡ slot_of (layout_bytes layout) face) × (slot < 6)) }
 {
-    let mut slot = 0;
-    while slot < 6 {
+    for slot in 0..6 {
         if face_in(layout, slot) == face {
-            return slot;
+            return Some(slot);
         }
-        slot += 1;
     }
-    6
+    None
 }

@@ -2,7 +2,6 @@
 #![tactic(auto)]
 
 ghost use Rattle.std.specs.Prelude.{◌≡◌, ℕ, ◌/◌, ◌≤◌, ◌<◌, T, get_or, pos, nat_abs};
-ghost use Rattle.cubemap.specs.Interface.{format_of};
 ghost use Rattle.cubemap.specs.PlaceToRay as paper;
 ghost use Rattle.cubemap.specs.RayToPlace.{face_of};
 ghost use Rattle.cubemap.specs.RayToPlace as to_place;
@@ -15,13 +14,6 @@ use cubemap::{Format, Located, Ray};
 // N of the ACP curve.
 const N: u64 = 65536;
 
-// Code 0 is CMP; question 4 refuses every code but 0 and 1.
-pub fn format_of(code: u64) -> Format
-    ensures { result ≡ format_of code }
-{
-    if code == 0 { Format::Cmp } else { Format::Acp }
-}
-
 // ---- from place to ray
 
 // c·(34N − 9c), the left side of equation 12.
@@ -32,23 +24,13 @@ fn bent_at(c: u64) -> u64
     c * (34 * N - 9 * c)
 }
 
-// The largest whole c from 0 to N with c·(34N − 9c)·A ≤ 25·N²·k, by bisection: `low` passes, `high` does not or is beyond N.
+// The largest whole c from 0 to N with c·(34N − 9c)·A ≤ 25·N²·k: those up to it pass.
 fn curve(size: u64, k: u64) -> u64
     requires { (size ≤ 512) × (k ≤ 512) }
     ensures { result ≡ paper.curve size k }
 {
     let goal = 25 * N * N * k;
-    let mut low: u64 = 0;
-    let mut high: u64 = N + 1;
-    while low + 1 < high {
-        let middle = low + (high - low) / 2;
-        if bent_at(middle) * size <= goal {
-            low = middle;
-        } else {
-            high = middle;
-        }
-    }
-    low
+    arithmetic::last_passing(N + 1, |c| bent_at(c) * size <= goal)
 }
 
 // The scale s of a face's rays.
@@ -77,55 +59,40 @@ fn face_coordinate(format: Format, size: u64, m: u64) -> i64
     let p = from_centre(size, m);
     match format {
         Format::Cmp => p,
-        Format::Acp => arithmetic::with_sign_of(p, curve(size, arithmetic::magnitude(p))),
+        Format::Acp => arithmetic::with_sign_of(p, curve(size, p.unsigned_abs())),
     }
 }
 
-// The face coordinates of all columns of a face, which are those of its rows too. Nothing is said of the entries from A on.
+// The face coordinates of all columns of a face, which are those of its rows too. Nothing is said of the entries from A
+// on.
 pub fn face_coordinates(format: Format, size: u64) -> [i64; 512]
     requires { size ≤ 512 }
     ensures { (m : ℕ) → m < size → get_or result m (pos 0) ≡ paper.face_coordinate format size m }
 {
     let mut coordinates = [0; 512];
-    let mut m: u64 = 0;
-    while m < size {
+    for m in 0..size {
         coordinates[m as usize] = face_coordinate(format, size, m);
-        m += 1;
     }
     coordinates
 }
 
-// A row of Table 3.
+// A row of Table 3. (A face is its number here, as it is in the definitions table3, face_of and locate, and in what
+// look-up answers.)
+#[tactic(auto, unfolding(cubemap::specs::PlaceToRay::table3))]
 pub fn table3(face: u64, s: i64, a: i64, b: i64) -> Ray
     requires { (face < 6) × (nat_abs s ≤ 65536) × (nat_abs a ≤ 65536) × (nat_abs b ≤ 65536) }
     ensures { result ≡ paper.table3 face s a b }
 {
     match face {
-        0 => Ray {
-            x: s,
-            y: 0 - b,
-            z: 0 - a,
-        },
-        1 => Ray {
-            x: 0 - s,
-            y: 0 - b,
-            z: a,
-        },
+        0 => Ray { x: s, y: -b, z: -a },
+        1 => Ray { x: -s, y: -b, z: a },
         2 => Ray { x: a, y: s, z: b },
-        3 => Ray {
-            x: a,
-            y: 0 - s,
-            z: 0 - b,
-        },
-        4 => Ray {
-            x: a,
-            y: 0 - b,
-            z: s,
-        },
+        3 => Ray { x: a, y: -s, z: -b },
+        4 => Ray { x: a, y: -b, z: s },
         _ => Ray {
-            x: 0 - a,
-            y: 0 - b,
-            z: 0 - s,
+            x: -a,
+            y: -b,
+            z: -s,
         },
     }
 }
@@ -137,31 +104,22 @@ pub fn face_of(v: Ray) -> u64
     requires { T (ray_in_range v) × T (ray_nonzero v) }
     ensures { result ≡ face_of v }
 {
-    let x = v.x;
-    let y = v.y;
-    let z = v.z;
-    let sx = arithmetic::magnitude(x);
-    let sy = arithmetic::magnitude(y);
-    let sz = arithmetic::magnitude(z);
+    let sx = v.x.unsigned_abs();
+    let sy = v.y.unsigned_abs();
+    let sz = v.z.unsigned_abs();
     if sy <= sx && sz <= sx {
-        if 0 < x {
-            return 0;
-        }
-        return 1;
+        if v.x > 0 { 0 } else { 1 }
+    } else if sx <= sy && sz <= sy {
+        if v.y > 0 { 2 } else { 3 }
+    } else if v.z > 0 {
+        4
+    } else {
+        5
     }
-    if sx <= sy && sz <= sy {
-        if 0 < y {
-            return 2;
-        }
-        return 3;
-    }
-    if 0 < z {
-        return 4;
-    }
-    5
 }
 
-// A ray by the row of Table 4 for a face: u × d, v × d, and d, which is positive where the ray points towards the face.
+// A ray by the row of Table 4 for a face: u × d, v × d, and d, which is positive where the ray points towards the
+// face.
 #[derive(Clone, Copy)]
 pub struct Facing {
     pub across: i64,
@@ -170,43 +128,41 @@ pub struct Facing {
 }
 
 // A row of Table 4.
+#[tactic(auto, unfolding(cubemap::specs::Checks::ray_in_range, cubemap::specs::RayToPlace::across, cubemap::specs::RayToPlace::down, cubemap::proofs::Faces::toward))]
 pub fn table4(face: u64, v: Ray) -> Facing
     requires { (face < 6) × T (ray_in_range v) }
     ensures { Row4 face v result.across result.down result.toward }
 {
-    let x = v.x;
-    let y = v.y;
-    let z = v.z;
     match face {
         0 => Facing {
-            across: 0 - z,
-            down: 0 - y,
-            toward: x,
+            across: -v.z,
+            down: -v.y,
+            toward: v.x,
         },
         1 => Facing {
-            across: z,
-            down: 0 - y,
-            toward: 0 - x,
+            across: v.z,
+            down: -v.y,
+            toward: -v.x,
         },
         2 => Facing {
-            across: x,
-            down: z,
-            toward: y,
+            across: v.x,
+            down: v.z,
+            toward: v.y,
         },
         3 => Facing {
-            across: x,
-            down: 0 - z,
-            toward: 0 - y,
+            across: v.x,
+            down: -v.z,
+            toward: -v.y,
         },
         4 => Facing {
-            across: x,
-            down: 0 - y,
-            toward: z,
+            across: v.x,
+            down: -v.y,
+            toward: v.z,
         },
         _ => Facing {
-            across: 0 - x,
-            down: 0 - y,
-            toward: 0 - z,
+            across: -v.x,
+            down: -v.y,
+            toward: -v.z,
         },
     }
 }
@@ -219,11 +175,9 @@ pub fn locate(format: Format, size: u64, v: Ray) -> Located
     let face = face_of(v);
     let f = table4(face, v);
     let d = f.toward as u64;
-    let column = positions::position(format, size, f.across, d);
-    let row = positions::position(format, size, f.down, d);
     Located {
-        face: face,
-        column: column,
-        row: row,
+        face,
+        column: positions::position(format, size, f.across, d),
+        row: positions::position(format, size, f.down, d),
     }
 }

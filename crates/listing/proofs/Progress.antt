@@ -19,9 +19,6 @@ pub record Progress (before : List ℕ) (at : ℕ) (input after : List ℕ) (end
   pub left : lines ++ lines_from k (drop from input) ≡ lines_from 0 input
   pub put : Put before at lines end after
 
-pub none_yet : (before : List ℕ) (at : ℕ) (input : List ℕ) → Progress before at input before at 0 0
-none_yet before at input = record { within = omega arith; counted = omega arith; lines = []; left = refl; put = put-none before at }
-
 module _ {before after : List ℕ} {at end k from : ℕ} (input : List ℕ) (p : Progress before at input after end k from) where
   rest : List ℕ
   rest = drop from input

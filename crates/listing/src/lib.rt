@@ -1,18 +1,17 @@
 // The listing program's work: bytes of records go in, the bytes of the listing come out in a lent buffer.
 #![tactic(auto)]
 
-ghost use Rattle.std.specs.Prelude.{◌≡◌, [], ◌∷◌, ◌+◌, ◌^◌, ◌≤◌, ◌<◌, pos, length};
-ghost use Rattle.cubemap.specs.Checks.{first_failed};
+ghost use Rattle.std.specs.Prelude.{◌≡◌, ℤ, [], ◌∷◌, ◌+◌, ◌≤◌, ◌<◌, pos, length};
 ghost use Rattle.cubemap.specs.Outcomes.{looked_up_means, look_up_values, refusal};
 ghost use Rattle.cubemap.specs.Listing as paper;
 ghost use Rattle.cubemap.specs.Promises.{ListingPromise};
 ghost use Rattle.cubemap.proofs.Records.{passed};
 ghost use Rattle.cubemap.proofs.Listings.{behind_space, refused_text, lines_from};
-ghost use Rattle.checks.specs.Asking.{checked_means};
+ghost use Rattle.listing.specs.Records.{whole_length};
 ghost use Rattle.listing.specs.Texts.{Put};
 
-use checks::Checked;
-use cubemap::{Located, LookedUp, Ray, Refusal};
+use checks::ask;
+use cubemap::{Located, Ray, Refusal};
 
 // The most bytes that a listing has: the header and 10,923 refused records.
 pub const LONGEST: usize = 174600;
@@ -23,50 +22,43 @@ pub const LIMIT: usize = 65536;
 // ---- records: each function takes the input from a record's first byte on
 
 // The number in the two bytes from index i on, little-endian.
-fn two_bytes(bytes: &[u8], i: usize) -> u64
+fn two_bytes(bytes: &[u8], i: usize) -> u16
     requires { i + 2 ≤ length bytes.now }
-    ensures { (result ≡ paper.read_from bytes.now i 2) × (result < 2 ^ 16) }
+    ensures { result ≡ paper.read_from bytes.now i 2 }
 {
-    frame::wide(bytes[i]) + 256 * frame::wide(bytes[i + 1])
+    u16::from_le_bytes([bytes[i], bytes[i + 1]])
 }
 
-fn four_bytes(bytes: &[u8], i: usize) -> u64
+fn four_bytes(bytes: &[u8], i: usize) -> u32
     requires { i + 4 ≤ length bytes.now }
-    ensures { (result ≡ paper.read_from bytes.now i 4) × (result < 2 ^ 32) }
+    ensures { result ≡ paper.read_from bytes.now i 4 }
 {
-    two_bytes(bytes, i) + 65536 * two_bytes(bytes, i + 2)
+    u32::from_le_bytes([bytes[i], bytes[i + 1], bytes[i + 2], bytes[i + 3]])
 }
 
 // Four bytes in two's complement.
-fn signed(v: u64) -> i64
-    requires { v < 2 ^ 32 }
-    ensures { result ≡ paper.signed32 v }
+fn signed(bytes: &[u8], i: usize) -> i64
+    requires { i + 4 ≤ length bytes.now }
+    ensures { result ≡ paper.signed32 (paper.read_from bytes.now i 4) }
 {
-    if v < 2147483648 {
-        v as i64
-    } else {
-        (v as i64) - 4294967296
-    }
+    i64::from(four_bytes(bytes, i).cast_signed())
 }
 
 // 16: are the six leading bytes and the body there?
+#[tactic(auto, unfolding(cubemap::specs::Listing::is_whole))]
 fn is_whole(bytes: &[u8]) -> bool
     ensures { result ≡ paper.is_whole bytes.now }
 {
-    if bytes.len() < 6 {
-        return false;
-    }
-    6 + four_bytes(bytes, 0) <= bytes.len() as u64
+    bytes.len() >= 6 && 6 + four_bytes(bytes, 0) as usize <= bytes.len()
 }
 
-// 15: kind 1 with length 15? Nothing is said where the six leading bytes are cut short.
-fn is_ray_record(bytes: &[u8]) -> bool
-    ensures { 6 ≤ length bytes.now → result ≡ paper.is_ray_record bytes.now }
+// How long a record is that is whole.
+#[tactic(auto, unfolding(cubemap::specs::Listing::is_whole))]
+fn whole_length(bytes: &[u8]) -> Result<usize, Refusal>
+    ensures { result ≡ whole_length bytes.now }
 {
-    if bytes.len() < 6 {
-        return false;
-    }
-    (two_bytes(bytes, 4) == 1) & (four_bytes(bytes, 0) == 15)
+    ask(is_whole(bytes), Refusal::RecordCut)?;
+    Ok(6 + four_bytes(bytes, 0) as usize)
 }
 
 // The ray of a record that passes 15: its body begins at byte 6, with the format and the face size in front of the ray.
@@ -75,47 +67,32 @@ fn ray_of(bytes: &[u8]) -> Ray
     ensures { result ≡ paper.record_ray bytes.now }
 {
     Ray {
-        x: signed(four_bytes(bytes, 9)),
-        y: signed(four_bytes(bytes, 13)),
-        z: signed(four_bytes(bytes, 17)),
+        x: signed(bytes, 9),
+        y: signed(bytes, 13),
+        z: signed(bytes, 17),
     }
 }
 
-// 16, which was asked already, and 15.
-fn record_answer(bytes: &[u8], whole: bool) -> Checked
-    requires { whole ≡ paper.is_whole bytes.now }
-    ensures { checked_means result ≡ first_failed (paper.record_checks bytes.now) }
-{
-    let a16 = checks::ask(Checked::Accepted, whole, Refusal::RecordCut);
-    checks::ask(a16, is_ray_record(bytes), Refusal::RecordKind)
-}
-
-// What a record comes to: its questions, then the look-up's.
-fn result_of(bytes: &[u8], whole: bool) -> LookedUp
-    requires { whole ≡ paper.is_whole bytes.now }
+// What a record comes to: 16, then 15 (kind 1 with length 15?), then the look-up's questions.
+#[tactic(auto, unfolding(cubemap::specs::Listing::is_whole, cubemap::specs::Listing::is_ray_record, cubemap::specs::Listing::record_checks, cubemap::specs::Listing::record_result, cubemap::specs::Checks::first_failed))]
+fn result_of(bytes: &[u8]) -> Result<Located, Refusal>
     ensures { looked_up_means result ≡ paper.record_result bytes.now }
 {
-    let answer = record_answer(bytes, whole);
-    match answer {
-        Checked::Refused(refused) => LookedUp::Refused(refused),
-        Checked::Accepted => look_up::look_up(
-            two_bytes(bytes, 7),
-            frame::wide(bytes[6]),
-            ray_of(bytes),
-        ),
-    }
+    whole_length(bytes)?;
+    let is_ray = (two_bytes(bytes, 4) == 1) & (four_bytes(bytes, 0) == 15);
+    ask(is_ray, Refusal::RecordKind)?;
+    look_up::look_up(
+        u64::from(two_bytes(bytes, 7)),
+        u64::from(bytes[6]),
+        ray_of(bytes),
+    )
 }
 
 // How many bytes to pass over: the record, or all that is left where it is not whole.
-fn length_of(bytes: &[u8], whole: bool) -> usize
-    requires { whole ≡ paper.is_whole bytes.now }
+fn length_of(bytes: &[u8]) -> usize
     ensures { result ≡ passed bytes.now }
 {
-    if whole {
-        (6 + four_bytes(bytes, 0)) as usize
-    } else {
-        bytes.len()
-    }
+    whole_length(bytes).unwrap_or(bytes.len())
 }
 
 // ---- text: each function stores bytes from index `at` on and says where they end
@@ -133,12 +110,9 @@ pub fn put_bytes(text: &mut [u8], at: usize, more: &[u8]) -> usize
     requires { at + length more.now ≤ length text.old }
     ensures { Put text.old at more.now result text.new }
 {
-    let mut i = 0;
-    while i < more.len() {
-        text[at + i] = more[i];
-        i += 1;
-    }
-    at + i
+    let end = at + more.len();
+    text[at..end].copy_from_slice(more);
+    end
 }
 
 // n in decimal: the digits in front of the last one, then the last one.
@@ -153,34 +127,45 @@ fn put_decimal(text: &mut [u8], at: usize, n: u64) -> usize
     put_byte(text, last, (48 + n % 10) as u8)
 }
 
-// A negative number begins with '-'.
-fn put_signed(text: &mut [u8], at: usize, z: i64) -> usize
-    requires { at + length (paper.decimal z) ≤ length text.old }
-    ensures { Put text.old at (paper.decimal z) result text.new }
-{
-    let size = arithmetic::magnitude(z);
-    if z < 0 {
-        let digits = put_byte(text, at, b'-');
-        return put_decimal(text, digits, size);
+// A number that has a text in decimal.
+trait Decimal {
+    ghost number: { Self → ℤ };
+
+    // Its text.
+    fn put(self, text: &mut [u8], at: usize) -> usize
+        requires { at + length (paper.decimal (number self)) ≤ length text.old }
+        ensures { Put text.old at (paper.decimal (number self)) result text.new };
+}
+
+impl Decimal for u64 {
+    ghost number = { λ n. pos n };
+
+    fn put(self, text: &mut [u8], at: usize) -> usize {
+        put_decimal(text, at, self)
     }
-    put_decimal(text, at, size)
+}
+
+// A negative number begins with '-'.
+impl Decimal for i64 {
+    ghost number = { λ z. z };
+
+    fn put(self, text: &mut [u8], at: usize) -> usize {
+        let size = self.unsigned_abs();
+        if self < 0 {
+            let digits = put_byte(text, at, b'-');
+            return put_decimal(text, digits, size);
+        }
+        put_decimal(text, at, size)
+    }
 }
 
 // A number behind a space.
-fn put_spaced(text: &mut [u8], at: usize, n: u64) -> usize
-    requires { at + length (behind_space (pos n)) ≤ length text.old }
-    ensures { Put text.old at (behind_space (pos n)) result text.new }
+fn put_spaced<N: Decimal>(text: &mut [u8], at: usize, n: N) -> usize
+    requires { at + length (behind_space (N.number n)) ≤ length text.old }
+    ensures { Put text.old at (behind_space (N.number n)) result text.new }
 {
-    let number = put_byte(text, at, b' ');
-    put_decimal(text, number, n)
-}
-
-fn put_spaced_signed(text: &mut [u8], at: usize, z: i64) -> usize
-    requires { at + length (behind_space z) ≤ length text.old }
-    ensures { Put text.old at (behind_space z) result text.new }
-{
-    let number = put_byte(text, at, b' ');
-    put_signed(text, number, z)
+    let digits = put_byte(text, at, b' ');
+    n.put(text, digits)
 }
 
 // ---- lines, behind the record's number
@@ -191,8 +176,8 @@ fn put_located(text: &mut [u8], at: usize, p: Located) -> usize
     ensures { Put text.old at (paper.spaced (look_up_values p)) result text.new }
 {
     let column = put_spaced(text, at, p.face);
-    let row = put_spaced_signed(text, column, p.column);
-    let end = put_spaced_signed(text, row, p.row);
+    let row = put_spaced(text, column, p.column);
+    let end = put_spaced(text, row, p.row);
     put_byte(text, end, b'\n')
 }
 
@@ -207,20 +192,20 @@ fn put_refused(text: &mut [u8], at: usize, refused: Refusal) -> usize
 }
 
 // The line of record number k.
-fn put_line(text: &mut [u8], at: usize, k: u64, found: LookedUp) -> usize
+fn put_line(text: &mut [u8], at: usize, k: u64, found: Result<Located, Refusal>) -> usize
     requires { at + length (paper.line k (looked_up_means found)) ≤ length text.old }
     ensures { Put text.old at (paper.line k (looked_up_means found)) result text.new }
 {
     let number = put_decimal(text, at, k);
     match found {
-        LookedUp::At(p) => put_located(text, number, p),
-        LookedUp::Refused(refused) => put_refused(text, number, refused),
+        Ok(p) => put_located(text, number, p),
+        Err(refused) => put_refused(text, number, refused),
     }
 }
 
 // ---- the listing
 
-// The lines of all records of the input.
+// The lines of all records of the input. (The loop goes from record to record, and no iterator tells where one ends.)
 fn put_lines(text: &mut [u8], at: usize, input: &[u8]) -> usize
     requires { at + length (lines_from 0 input.now) ≤ length text.old }
     ensures { Put text.old at (lines_from 0 input.now) result text.new }
@@ -230,9 +215,8 @@ fn put_lines(text: &mut [u8], at: usize, input: &[u8]) -> usize
     let mut from = 0;
     while from < input.len() {
         let bytes = &input[from..];
-        let whole = is_whole(bytes);
-        end = put_line(text, end, k, result_of(bytes, whole));
-        from += length_of(bytes, whole);
+        end = put_line(text, end, k, result_of(bytes));
+        from += length_of(bytes);
         k += 1;
     }
     end

@@ -2,30 +2,19 @@
 #![tactic(auto)]
 
 ghost use Rattle.std.specs.Prelude.{◌≡◌};
-ghost use Rattle.cubemap.specs.Checks.{first_failed, look_up_checks};
 ghost use Rattle.cubemap.specs.Outcomes.{looked_up_means, look_up_result};
-ghost use Rattle.checks.specs.Asking.{checked_means};
 
-use checks::Checked;
-use cubemap::{LookedUp, Ray, Refusal};
-
-// The questions.
-fn look_up_answer(size: u64, format: u64, v: Ray) -> Checked
-    ensures { checked_means result ≡ first_failed (look_up_checks size format v) }
-{
-    let a1 = checks::ask(Checked::Accepted, checks::size_ok(size), Refusal::FaceSize);
-    let a4 = checks::ask(a1, checks::code_ok(format), Refusal::Code);
-    let a13 = checks::ask(a4, checks::ray_in_range(v), Refusal::RayRange);
-    checks::ask(a13, checks::ray_nonzero(v), Refusal::RayZero)
-}
+use checks::{ask, ray_in_range, ray_nonzero, size_ok};
+use cubemap::{Format, Located, Ray, Refusal};
 
 // Looks up a ray in a cube of this face size and format.
-pub fn look_up(size: u64, format: u64, v: Ray) -> LookedUp
+#[tactic(auto, unfolding(cubemap::specs::Checks::first_failed, cubemap::specs::Checks::size_ok, cubemap::specs::Checks::look_up_checks, cubemap::specs::Outcomes::look_up_result))]
+pub fn look_up(size: u64, format: u64, v: Ray) -> Result<Located, Refusal>
     ensures { looked_up_means result ≡ look_up_result size format v }
 {
-    let answer = look_up_answer(size, format, v);
-    match answer {
-        Checked::Refused(refused) => LookedUp::Refused(refused),
-        Checked::Accepted => LookedUp::At(geometry::locate(geometry::format_of(format), size, v)),
-    }
+    ask(size_ok(size), Refusal::FaceSize)?;
+    let format = Format::try_from(format)?;
+    ask(ray_in_range(v), Refusal::RayRange)?;
+    ask(ray_nonzero(v), Refusal::RayZero)?;
+    Ok(geometry::locate(format, size, v))
 }

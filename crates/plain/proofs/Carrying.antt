@@ -1,25 +1,25 @@
--- What is carried along a stretch is what its columns ask for, and where all guesses are good the table has T + 32 of each.
-use mathlib.Core.Path.{◌≡◌, sym, ◌∙◌, ap, ap₂, subst}
-use mathlib.Core.Logic.{◌⊎◌, inl, inr}
+-- What is carried along a stretch is what its columns ask for, and where all guesses are good the table has T + 32 of
+-- each.
+use mathlib.Core.Path.{◌≡◌, refl, sym, ◌∙◌, ap, ap₂, subst}
 use mathlib.Core.List.{List, [], ◌∷◌}
 use Prim.Native.Nat.{ℕ, ◌+◌, ◌*◌, ◌-◌, ◌/◌, ◌%◌, ◌≤◌, ◌<◌}
-use native.Mathlib.Nat.{zero-add, mul-le-mul, le_trans, eq-or-lt_of_le}
+use native.Mathlib.Nat.{mul-le-mul, le_trans}
 use native.Mathlib.Omega.{arith}
 use lib.IntN.{ℤ, pos, ◌+ℤ◌, ◌-ℤ◌, ◌*ℤ◌, -ℤ-+ℤ_cancel}
-use lib.ListN.{length, get_or, set, length-set}
-use lib.Seq.{get_or-set_same, get_or-set_other}
+use lib.ListN.{length, get_or, set}
+use Rattle.arithmetic.proofs.Filling.{entries_next}
 use Rattle.arithmetic.proofs.Sizes.{pos_inj, pos-sub}
 use Rattle.arithmetic.proofs.Ring.{var, ◌⊕◌, ◌⊝◌, solve}
 use Rattle.cubemap.specs.declared.Format.{Format}
 use Rattle.cubemap.specs.RayToPlace.{position64}
 use Rattle.cubemap.proofs.Positions.{position-cmp}
-use Rattle.plain.specs.declared.Walk.{Walk}
+use Rattle.positions.specs.declared.Line.{Line}
 use Rattle.plain.specs.declared.Carried.{Carried}
 use Rattle.plain.specs.Walks.{walk_at, size_at, rest_at, width_at, Walks, Carries, Plain}
-use Rattle.plain.proofs.Confirmed.{far, Left, quotient}
+use Rattle.plain.proofs.Confirmed.{far, Left, left-small, left-least, correction, quotient}
 
 -- the numerator of T + 32 as a natural number
-abbrev pub top : ℕ → Walk → Walk → ℕ → ℕ
+abbrev pub top : ℕ → Line → Line → ℕ → ℕ
 top A sum distance i = 64 * A * size_at sum i + size_at distance i
 
 -- what a guess leaves of what is carried, and the entry that it gives
@@ -39,27 +39,27 @@ pub record Tried (low high n D t : ℕ) : Type 0 where
   pub is : t ≡ guess - rest / far
 
 -- the columns before i are tried, and what is carried is that of column i
-pub record Reached (A : ℕ) (sum distance : Walk) (at : ℕ) (table : List ℕ) (rest wide low high i : ℕ) : Type 0 where
+pub record Reached (A : ℕ) (sum distance : Line) (table : List ℕ) (rest wide low high i : ℕ) : Type 0 where
   pub rest-at : pos rest ≡ rest_at A sum distance i
   pub wide_at : pos wide ≡ width_at distance i
-  pub tried : (m : ℕ) → m < i → Tried low high (top A sum distance m) (2 * size_at distance m) (get_or table (at + m) 0)
+  pub tried : (m : ℕ) → m < i → Tried low high (top A sum distance m) (2 * size_at distance m) (get_or table m 0)
 
 -- what is carried stands for the walks: 2^62 − 1 less the numerator, and 2^40 more than the denominator
-pub record Stands (A : ℕ) (sum distance : Walk) (count : ℕ) (n d : Carried) : Type 0 where
+pub record Stands (A : ℕ) (sum distance : Line) (count : ℕ) (n d : Carried) : Type 0 where
   pub walks : Walks A sum distance count
   pub rests : Carries 281474976710656 (rest_at A sum distance) n
   pub widths : Carries 4294967296 (width_at distance) d
 
 -- what is known at a column
-module _ {A : ℕ} {sum distance : Walk} {count : ℕ} (w : Walks A sum distance count) {i : ℕ} (h : i < count) where
+module _ {A : ℕ} {sum distance : Line} {count : ℕ} (w : Walks A sum distance count) {i : ℕ} (h : i < count) where
   top_small : top A sum distance i ≤ 70368744177664
   top_small =
       let s : 64 * A * size_at sum i ≤ 32768 * 1073741822 =
       mul-le-mul {n₂ = 32768} {m₂ = 1073741822} (omega (arith, w.size-most)) (omega (arith, w.ratio i h, w.bounded i h)) in
       omega (arith, w.bounded i h)
 
-  module _ {at : ℕ} {table : List ℕ} {rest wide low high : ℕ}
-      (v : Reached A sum distance at table rest wide low high i) where
+  module _ {table : List ℕ} {rest wide low high : ℕ}
+      (v : Reached A sum distance table rest wide low high i) where
     rest-is : rest ≡ 4611686018427387903 - top A sum distance i
     rest-is = pos_inj rest (4611686018427387903 - top A sum distance i)
         (v.rest-at
@@ -89,128 +89,102 @@ moved {number = number} {c = c} m a i h e =
     ∙ solve (pos a ∷ pos c.up ∷ pos c.down ∷ []) (var 0 ⊕ var 1 ⊝ var 2) (var 0 ⊕ (var 1 ⊝ var 2)) tt
     ∙ ap (λ z. z +ℤ (pos c.up -ℤ pos c.down)) e ∙ m.next i
 
--- the table with the entries of column i and of its row
-abbrev pub entered : List ℕ → ℕ → ℕ → ℕ → List ℕ
-entered table i t u = set (set table i t) (512 + i) u
-
--- from the entry `at` on, the next table has t for column i, and what it had for those before
-pub record Entered (at i : ℕ) (table next : List ℕ) (t : ℕ) : Type 0 where
-  pub here : get_or next (at + i) 0 ≡ t
-  pub before : (k : ℕ) → k < i → get_or next (at + k) 0 ≡ get_or table (at + k) 0
-
-module _ (table : List ℕ) (i t u : ℕ) (h : i < 512) (l : length table ≡ 1024) where
-  pub column-entered : Entered 0 i table (entered table i t u) t
-  column-entered = record {
-    here =
-        get_or-set_other (set table i t) (512 + i) (0 + i) u 0 (λ f. absurd (omega (arith, f)))
-        ∙ ap (λ k. get_or (set table i t) k 0) (zero-add i) ∙ get_or-set_same table i t 0 (omega (arith, h, l));
-    before = λ k b.
-        get_or-set_other (set table i t) (512 + i) (0 + k) u 0 (λ f. absurd (omega (arith, f, b)))
-        ∙ get_or-set_other table i (0 + k) t 0 (λ f. absurd (omega (arith, f, b)));
-  }
-
-  pub row-entered : Entered 512 i table (entered table i t u) u
-  row-entered = record {
-    here = get_or-set_same (set table i t) (512 + i) u 0 (omega (arith, h, l, length-set table i t));
-    before = λ k b.
-        get_or-set_other (set table i t) (512 + i) (512 + k) u 0 (λ f. absurd (omega (arith, f, b)))
-        ∙ get_or-set_other table i (512 + k) t 0 (λ f. absurd (omega (arith, f, h)));
-  }
-
-  pub entered-length : length (entered table i t u) ≡ 1024
-  entered-length = length-set (set table i t) (512 + i) u ∙ length-set table i t ∙ l
+-- what a guess leaves fits, and so do the numbers of the next column
+pub record Room (rest wide g : ℕ) (n d : Carried) : Type 0 where
+  pub left-fits : left_by wide rest g + wide % 4294967296 < 18446744073709551616
+  pub left-least : wide % 4294967296 ≤ left_by wide rest g
+  pub entry-room : left_by wide rest g / far ≤ g
+  pub rest-fits : rest + n.up < 18446744073709551616
+  pub rest-room : n.down ≤ rest + n.up
+  pub wide_fits : wide + d.up < 18446744073709551616
+  pub wide_room : d.down ≤ wide + d.up
 
 -- a column more
-module _ {A : ℕ} {sum distance : Walk} {at count : ℕ} {table : List ℕ} {rest wide low high i : ℕ} {n d : Carried}
+module _ {A : ℕ} {sum distance : Line} {count : ℕ} {table : List ℕ} {rest wide low high i : ℕ} {n d : Carried}
     (m : Stands A sum distance count n d)
-    (v : Reached A sum distance at table rest wide low high i) (h : i < count) where
-  pub rest-fits : rest + n.up < 18446744073709551616
+    (v : Reached A sum distance table rest wide low high i) (h : i < count) where
+  rest-fits : rest + n.up < 18446744073709551616
   rest-fits = omega (arith, rest-is m.walks h v, m.rests.few.0)
 
-  pub rest-room : n.down ≤ rest + n.up
+  rest-room : n.down ≤ rest + n.up
   rest-room = omega (arith, rest-is m.walks h v, top_small m.walks h, m.rests.few.1)
 
-  pub wide_fits : wide + d.up < 18446744073709551616
+  wide_fits : wide + d.up < 18446744073709551616
   wide_fits = omega (arith, wide_is m.walks h v, m.walks.bounded i h, m.widths.few.0)
 
-  pub wide_room : d.down ≤ wide + d.up
+  wide_room : d.down ≤ wide + d.up
   wide_room = omega (arith, wide_is m.walks h v, m.widths.few.1)
 
-  reached-next : (g least most : ℕ) (next : List ℕ) → Entered at i table next (entry_by wide rest g) → g < 65536
+  -- every number on the way fits
+  pub room : (g : ℕ) → g < 65536 → Room rest wide g n d
+  room g f =
+      let l = left_at m.walks h v g f in
+      record {
+        left-fits = omega (arith, left-small l);
+        left-least = left-least l;
+        entry-room = correction l;
+        rest-fits = rest-fits;
+        rest-room = rest-room;
+        wide_fits = wide_fits;
+        wide_room = wide_room;
+      }
+
+  pub reached-next : (g least most : ℕ) → i < length table → g < 65536
       → least ≤ low → least ≤ left_by wide rest g + wide % 4294967296
       → high ≤ most → left_by wide rest g - wide % 4294967296 ≤ most
-      → Reached A sum distance at next (rest + n.up - n.down) (wide + d.up - d.down) least most (i + 1)
-  reached-next g least most next e few a b p q = record {
+      → Reached A sum distance (set table i (entry_by wide rest g)) (rest + n.up - n.down)
+      (wide + d.up - d.down) least most (i + 1)
+  reached-next g least most inside few a b p q = record {
     rest-at = moved m.rests rest i rest-room v.rest-at;
     wide_at = moved m.widths wide i wide_room v.wide_at;
-    tried = λ k u. now k (eq-or-lt_of_le (omega (arith, u)));
+    tried = λ k u.
+        entries_next {from = 0} table (entry_by wide rest g) 0
+        (λ k. Tried least most (top A sum distance k) (2 * size_at distance k)) inside
+        (λ k _ l. before k (v.tried k l)) here k (omega arith) u;
   }
     where
-      Next : ℕ → Type 0
-      Next k = Tried least most (top A sum distance k) (2 * size_at distance k) (get_or next (at + k) 0)
+      here : Tried least most (top A sum distance i) (2 * size_at distance i) (entry_by wide rest g)
+      here = subst (λ D. Tried least most (top A sum distance i) D (entry_by wide rest g)) (by-is m.walks h v) record {
+        guess = g;
+        rest = left_by wide rest g;
+        left = left_at m.walks h v g few;
+        above = b;
+        under = q;
+        is = refl;
+      }
 
-      here : Next i
-      here = subst (λ D. Tried least most (top A sum distance i) D (get_or next (at + i) 0))
-          (by-is m.walks h v) record {
-            guess = g;
-            rest = left_by wide rest g;
-            left = left_at m.walks h v g few;
-            above = b;
-            under = q;
-            is = e.here;
-          }
-
-      before : (k : ℕ) → k < i
-          → Tried low high (top A sum distance k) (2 * size_at distance k) (get_or table (at + k) 0) → Next k
-      before k u o = record {
+      before : (k : ℕ) {t : ℕ} → Tried low high (top A sum distance k) (2 * size_at distance k) t
+          → Tried least most (top A sum distance k) (2 * size_at distance k) t
+      before k o = record {
         guess = o.guess;
         rest = o.rest;
         left = o.left;
         above = le_trans a o.above;
         under = le_trans o.under p;
-        is = e.before k u ∙ o.is;
+        is = o.is;
       }
 
-      now : (k : ℕ) → (k ≡ i) ⊎ (k < i) → Next k
-      now k (inl f) = subst Next (sym f) here
-      now k (inr u) = before k u (v.tried k u)
-
--- the columns or the rows in the loop: whatever the walks are that what is carried stands for
-pub record Going (A at count : ℕ) (n d : Carried) (table : List ℕ) (rest wide low high i : ℕ) : Type 0 where
-  pub done : (sum distance : Walk) → Stands A sum distance count n d
-      → Reached A sum distance at table rest wide low high i
-
-pub going-from : (A at count : ℕ) (n d : Carried) (table : List ℕ) (low high : ℕ)
-    → Going A at count n d table n.at d.at low high 0
-going-from A at count n d table low high = record {
-  done = λ sum distance m. record {
-    rest-at = m.rests.first;
-    wide_at = m.widths.first;
-    tried = λ k u. absurd (omega (arith, u));
-  };
-}
-
-pub going_next : {A at count : ℕ} {n d : Carried} {table next : List ℕ} {rest wide low high i : ℕ} (g least most : ℕ)
-    → Going A at count n d table rest wide low high i → i < count → Entered at i table next (entry_by wide rest g)
-    → g < 65536 → least ≤ low → least ≤ left_by wide rest g + wide % 4294967296
-    → high ≤ most → left_by wide rest g - wide % 4294967296 ≤ most
-    → Going A at count n d next (rest + n.up - n.down) (wide + d.up - d.down) least most (i + 1)
-going_next g least most v h e few a b p q = record {
-  done = λ sum distance m. reached-next m (v.done sum distance m) h g least most _ e few a b p q;
+-- before the first column
+pub reached-none : {A : ℕ} {sum distance : Line} {count : ℕ} {n d : Carried} → Stands A sum distance count n d
+    → (table : List ℕ) (low high : ℕ) → Reached A sum distance table n.at d.at low high 0
+reached-none m table low high = record {
+  rest-at = m.rests.first;
+  wide_at = m.widths.first;
+  tried = λ k u. absurd (omega (arith, u));
 }
 
 -- where every guess is good, the table has T + 32
-pub confirmed : {A : ℕ} {sum distance : Walk} {at count : ℕ} {table : List ℕ} {rest wide low high i : ℕ}
-    → Walks A sum distance count → Reached A sum distance at table rest wide low high i
-    → count ≤ i → far ≤ low → high < far → Plain A sum distance at count table
-confirmed {A} {sum} {distance} {at} {count} {table} {low = least} {high = most} w v h low high = record {
+pub confirmed : {A : ℕ} {sum distance : Line} {count : ℕ} {table : List ℕ} {rest wide low high i : ℕ}
+    → Walks A sum distance count → Reached A sum distance table rest wide low high i
+    → count ≤ i → far ≤ low → high < far → Plain A sum distance count table
+confirmed {A} {sum} {distance} {count} {table} {low = least} {high = most} w v h low high = record {
   entry = λ m l. go m l (v.tried m (omega (arith, h, l)));
 }
   where
     go : (m : ℕ) → m < count
-        → Tried least most (top A sum distance m) (2 * size_at distance m) (get_or table (at + m) 0)
+        → Tried least most (top A sum distance m) (2 * size_at distance m) (get_or table m 0)
         → position64 Format.Cmp A (walk_at sum m -ℤ walk_at distance m) (size_at distance m)
-        ≡ pos (get_or table (at + m) 0) -ℤ pos 32
+        ≡ pos (get_or table m 0) -ℤ pos 32
     go m l t =
         position-cmp A (size_at sum m) (walk_at sum m -ℤ walk_at distance m) (size_at distance m) (w.positive m l)
         (ap (λ z. walk_at sum m -ℤ walk_at distance m +ℤ z) (w.distances.ahead m l)

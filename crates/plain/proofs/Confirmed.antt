@@ -1,4 +1,5 @@
--- A guess g of n / D is the quotient, or one more, exactly where g·D lies within D of n; and what is left tells which of the two it is.
+-- A guess g of n / D is the quotient, or one more, exactly where g·D lies within D of n; and what is left tells which
+-- of the two it is.
 use mathlib.Core.Path.{◌≡◌, sym, ◌∙◌, ap}
 use Prim.Native.Nat.{ℕ, zero, suc, ◌+◌, ◌*◌, ◌-◌, ◌/◌, ◌≤◌, ◌<◌}
 use native.Mathlib.Nat.{div-eq_of_lt-le, mul-le-mul}

@@ -1,14 +1,15 @@
 -- What a number rises by and what it falls by.
 use mathlib.Core.Path.{◌≡◌, refl, sym, ◌∙◌, ap, subst}
 use mathlib.Core.List.{[], ◌∷◌}
-use Prim.Native.Nat.{ℕ, zero, suc, ◌*◌, ◌≤◌}
+use Prim.Native.Nat.{ℕ, zero, suc, ◌*◌, ◌^◌, ◌≤◌}
 use native.Mathlib.Nat.{add-zero}
 use native.Mathlib.Omega.{arith}
+use lib.Dec.{T, ltb}
 use lib.IntN.{ℤ, pos, negsuc, neg_ℤ, nat_abs, ◌-ℤ◌, ◌*ℤ◌, +ℤ_idl}
 use mir.Syntax.{w64}
-use mir.Val.{to_z}
+use mir.Val.{to_z, of_z}
 use Rattle.arithmetic.specs.Integers.{natural}
-use Rattle.arithmetic.proofs.Held.{Held}
+use Rattle.arithmetic.proofs.Held.{Held, opposite}
 use Rattle.arithmetic.proofs.Ring.{var, con, ◌⊗◌, ◌⊝◌, ⊖, solve}
 
 natural-small : (z : ℤ) {B : ℕ} → nat_abs z ≤ B → natural z ≤ B
@@ -40,7 +41,7 @@ twice-moves z =
 pub natural-is : (z : ℤ) → pos (nat_abs z) ≡ z → natural z ≡ nat_abs z
 natural-is z e = sym (ap natural e)
 
--- what a call of `rise` or `fall` gives of a held number
+-- what a call of `rise` gives of a held number, and of its opposite
 module _ {n : ℕ} {x : ℤ} {B r : ℕ} (p : Held n x B) where
   pub rises : r ≡ natural (to_z w64 n) → r ≡ natural x
   rises e = e ∙ ap natural p.is
@@ -48,8 +49,9 @@ module _ {n : ℕ} {x : ℤ} {B r : ℕ} (p : Held n x B) where
   pub rises-small : r ≡ natural (to_z w64 n) → r ≤ B
   rises-small e = subst (λ r. r ≤ B) (sym (rises e)) (natural-small x p.small)
 
-  pub falls : r ≡ natural (neg_ℤ (to_z w64 n)) → r ≡ natural (neg_ℤ x)
-  falls e = e ∙ ap (λ z. natural (neg_ℤ z)) p.is
+  module _ (t : T (ltb B (2 ^ 63))) (e : r ≡ natural (to_z w64 (of_z w64 (pos 0 -ℤ to_z w64 n)))) where
+    pub falls : r ≡ natural (neg_ℤ x)
+    falls = e ∙ ap natural (opposite p t).is
 
-  pub falls-small : r ≡ natural (neg_ℤ (to_z w64 n)) → r ≤ B
-  falls-small e = subst (λ r. r ≤ B) (sym (falls e)) (opposite-small x p.small)
+    pub falls-small : r ≤ B
+    falls-small = subst (λ r. r ≤ B) (sym falls) (opposite-small x p.small)

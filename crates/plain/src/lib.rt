@@ -1,17 +1,14 @@
 // T + 32 in CMP along a stretch of evenly spaced columns: guessed by any means, and confirmed in whole numbers.
-// One table has the columns and their rows: column i at entry i, its row at entry 512 + i.
 #![tactic(auto)]
 
-ghost use Rattle.std.specs.Prelude.{◌≡◌, true, ◌+◌, ◌*◌, ◌-◌, ◌≤◌, ◌<◌, pos, neg_ℤ, nat_abs, ◌+ℤ◌, ◌*ℤ◌, length};
+ghost use Rattle.std.specs.Prelude.{◌≡◌, true, ◌+◌, ◌*◌, ◌≤◌, ◌<◌, pos, nat_abs, ◌+ℤ◌, ◌*ℤ◌};
 ghost use Rattle.arithmetic.specs.Integers.{natural};
-ghost use Rattle.plain.specs.Walks.{size_at, rest_at, width_at, WalkInRange, Forward, Walks, Carries, Plain};
+ghost use Rattle.plain.specs.Walks.{size_at, rest_at, width_at, WalkInRange, Forward, Carries, Plain};
 
-// A number of the rays along a stretch: start + i·slope at its column i.
-#[derive(Clone, Copy)]
-pub struct Walk {
-    pub start: i64,
-    pub slope: i64,
-}
+mod even;
+
+pub use even::EvenStretch;
+use positions::Line;
 
 // ---- confirmation
 
@@ -27,18 +24,7 @@ struct Carried {
 fn rise(z: i64) -> u64
     ensures { result ≡ natural z }
 {
-    if z < 0 {
-        return 0;
-    }
-    z as u64
-}
-
-// What it falls by: its size where it is negative, else 0.
-fn fall(z: i64) -> u64
-    requires { nat_abs z ≤ 281474976710656 }
-    ensures { result ≡ natural (neg_ℤ z) }
-{
-    rise(0 - z)
+    z.max(0) as u64
 }
 
 // 64·A·s + d.
@@ -50,7 +36,7 @@ fn numerator(size: u64, s: i64, d: i64) -> i64
 }
 
 // 2^62 − 1 less the numerator, from the first column on: s has the sums, d the distances.
-fn rest_from(size: u64, s: Walk, d: Walk) -> Carried
+fn rest_from(size: u64, s: Line, d: Line) -> Carried
     requires { (size ≤ 512) × WalkInRange s.start s.slope × WalkInRange d.start d.slope }
     ensures { Carries 281474976710656 (rest_at size s d) result }
 {
@@ -58,107 +44,74 @@ fn rest_from(size: u64, s: Walk, d: Walk) -> Carried
     let slope = numerator(size, s.slope, d.slope);
     Carried {
         at: 4611686018427387903 - rise(start),
-        up: fall(slope),
+        up: rise(-slope),
         down: rise(slope),
     }
 }
 
 // 2^40 more than the denominator 2·d, from the first column on.
-fn width_from(d: Walk) -> Carried
+fn width_from(d: Line) -> Carried
     requires { WalkInRange d.start d.slope }
     ensures { Carries 4294967296 (width_at d) result }
 {
-    let start = d.start;
-    let slope = d.slope;
     Carried {
-        at: 1099511627776 + 2 * rise(start),
-        up: 2 * rise(slope),
-        down: 2 * fall(slope),
+        at: 1099511627776 + 2 * rise(d.start),
+        up: 2 * rise(d.slope),
+        down: 2 * rise(-d.slope),
     }
 }
 
 // T + 32 of each column, and of its row: where a guess times 2d lies within 2d of the numerator, that is the guess or
 // one less. All are so where the bits that every upper end has reach 2^62, and the bits that any lower end has do not.
-// False where one is not; nothing is said of the table then. g is the guess of a column and r what it leaves, h and q
+// False where one is not; nothing is said of the tables then. g is the guess of a column and r what it leaves, h and q
 // are those of its row.
 fn confirm(
-    size: u64,
-    s: Walk,
-    t: Walk,
-    d: Walk,
-    count: u64,
+    stretch: EvenStretch,
     guesses: &[u64; 512],
-    positions: &mut [u32; 1024],
+    columns: &mut [u32; 512],
+    rows: &mut [u32; 512],
 ) -> bool
-    requires { Walks size s d count × Walks size t d count × (length positions.old ≡ 1024) }
-    ensures { (result ≡ true → Plain size s d 0 count positions.new
-        × Plain size t d 512 count positions.new) × (length positions.new ≡ 1024) }
+    ensures { result ≡ true → Plain stretch.size stretch.columns stretch.distances stretch.count columns.new
+        × Plain stretch.size stretch.rows stretch.distances stretch.count rows.new }
 {
-    let column = rest_from(size, s, d);
-    let row = rest_from(size, t, d);
-    let width = width_from(d);
-    let column_up = column.up;
-    let column_down = column.down;
-    let row_up = row.up;
-    let row_down = row.down;
-    let wider = width.up;
-    let narrower = width.down;
+    let column = rest_from(stretch.size, stretch.columns, stretch.distances);
+    let row = rest_from(stretch.size, stretch.rows, stretch.distances);
+    let width = width_from(stretch.distances);
     let mut column_rest = column.at;
     let mut row_rest = row.at;
     let mut wide = width.at;
     let mut low: u64 = 9223372036854775807;
     let mut high: u64 = 0;
-    let mut i: u64 = 0;
-    while i < count {
-        let at = i as usize;
-        let guess = guesses[at];
+    for i in 0..stretch.count {
+        let guess = guesses[i];
         let g = (guess >> 15) % 65536;
         let h = (guess >> 47) % 65536;
         let by = wide % 4294967296;
         let r = g * by + column_rest;
         let q = h * by + row_rest;
-        low = low & ((r + by) & (q + by));
-        high = high | ((r - by) | (q - by));
-        positions[at] = (g - (r >> 62)) as u32;
-        positions[512 + at] = (h - (q >> 62)) as u32;
-        column_rest = column_rest + column_up - column_down;
-        row_rest = row_rest + row_up - row_down;
-        wide = wide + wider - narrower;
-        i += 1;
+        low &= (r + by) & (q + by);
+        high |= (r - by) | (q - by);
+        columns[i] = (g - (r >> 62)) as u32;
+        rows[i] = (h - (q >> 62)) as u32;
+        column_rest = column_rest + column.up - column.down;
+        row_rest = row_rest + row.up - row.down;
+        wide = wide + width.up - width.down;
     }
     (4611686018427387904 <= low) & (high < 4611686018427387904)
 }
 
 // ---- guesses: nothing is promised of them but that they are made
 
-// a + b and a − b, less or more 2^64 where they exceed 64 bits.
-fn wrapped_sum(a: u64, b: u64) -> u64 {
-    if a <= 18446744073709551615 - b {
-        a + b
-    } else {
-        a - (18446744073709551615 - b) - 1
-    }
-}
-
-fn wrapped_difference(a: u64, b: u64) -> u64 {
-    if b <= a {
-        a - b
-    } else {
-        a + (18446744073709551615 - b) + 1
-    }
-}
-
 // The number at a column.
-fn walk_at(w: Walk, count: u64, i: u64) -> u64
+fn walk_at(w: Line, count: usize, i: usize) -> u64
     requires { Forward w count × (count ≤ 512) × (i < count) }
     ensures { result ≡ size_at w i }
 {
-    let start = w.start;
-    let slope = w.slope;
-    rise(start + i as i64 * slope)
+    w.at(i as i64) as u64
 }
 
 // T + 32 of a column and of its row at 2^(14 − 2·lg) to the unit, the row's 2^32 times that: by one division.
+// One number stands for both, so that one addition leads both to the next column.
 fn node(lg: u64, size: u64, s: u64, t: u64, d: u64) -> u64
     requires { (lg ≤ 4) × (size ≤ 512) × (0 < d) × (s ≤ 2 * d) × (t ≤ 2 * d) }
 {
@@ -170,167 +123,118 @@ fn node(lg: u64, size: u64, s: u64, t: u64, d: u64) -> u64
 }
 
 // That at a column of the stretch.
-fn node_at(lg: u64, size: u64, s: Walk, t: Walk, d: Walk, count: u64, i: u64) -> u64
-    requires { (lg ≤ 4) × Walks size s d count × Walks size t d count × (i < count) }
+fn node_at(lg: u64, stretch: EvenStretch, i: usize) -> u64
+    requires { (lg ≤ 4) × (i < stretch.count) }
 {
-    let across = walk_at(s, count, i);
-    let down = walk_at(t, count, i);
-    node(lg, size, across, down, walk_at(d, count, i))
+    let s = walk_at(stretch.columns, stretch.count, i);
+    let t = walk_at(stretch.rows, stretch.count, i);
+    let d = walk_at(stretch.distances, stretch.count, i);
+    node(lg, stretch.size, s, t, d)
 }
 
 // A guess at a node: 2^15 to the unit, and one more.
 fn guess_at(lg: u64, n: u64) -> u64
     requires { lg ≤ 4 }
 {
-    wrapped_sum(n << (2 * lg + 1), 140737488388096)
+    (n << (2 * lg + 1)).wrapping_add(140737488388096)
 }
 
-// Eight guesses from column `at` on: the first, what is added to it, and what that grows by.
-fn eight(p: u64, first: u64, second: u64, at: u64, guesses: &mut [u64; 512])
-    requires { (at + 8 ≤ 512) × (length guesses.old ≡ 512) }
-    ensures { length guesses.new ≡ 512 }
-{
-    let mut guess = p;
-    let mut step = first;
-    let mut i: u64 = 0;
-    while i < 8 {
-        guesses[(at + i) as usize] = guess;
-        guess = wrapped_sum(guess, step);
-        step = wrapped_sum(step, second);
-        i += 1;
+// Eight guesses: the first, what is added to it, and what that grows by.
+fn eight(first: u64, step: u64, second: u64, guesses: &mut [u64]) {
+    let mut next = first;
+    let mut by = step;
+    for guess in guesses.iter_mut() {
+        *guess = next;
+        next = next.wrapping_add(by);
+        by = by.wrapping_add(second);
     }
 }
 
-// The guesses of `eights` times eight columns from column `at` on, twice 2^lg, along the parabola through the nodes at
-// the first, in the middle and after the last.
-fn parabola(lg: u64, n0: u64, n1: u64, n2: u64, at: u64, eights: u64, guesses: &mut [u64; 512])
-    requires { (lg ≤ 4) × (at + 8 * eights ≤ 512) × (length guesses.old ≡ 512) }
-    ensures { length guesses.new ≡ 512 }
+// The guesses of the columns that a parabola spans from column `at` on, EIGHTS times eight, twice 2^LG: through the
+// nodes at the first, in the middle and after the last.
+fn parabola<const LG: u64, const EIGHTS: usize>(
+    n0: u64,
+    n1: u64,
+    n2: u64,
+    at: usize,
+    guesses: &mut [u64; 512],
+)
+    requires { (LG ≤ 4) × (at + 8 * EIGHTS ≤ 512) }
 {
-    let bend = wrapped_difference(wrapped_sum(n0, n2), n1 << 1);
-    let slope = wrapped_difference(n1, n0) << (lg + 1);
+    let bend = n0.wrapping_add(n2).wrapping_sub(n1 << 1);
+    let slope = n1.wrapping_sub(n0) << (LG + 1);
     let second = bend << 1;
-    let mut first = wrapped_sum(slope, wrapped_difference(bend, bend << lg));
-    let mut p = guess_at(lg, n0);
-    let mut i: u64 = 0;
-    while i < eights {
-        eight(p, first, second, at + 8 * i, guesses);
-        let bent = wrapped_difference(second << 5, second << 2);
-        p = wrapped_sum(p, wrapped_sum(first << 3, bent));
-        first = wrapped_sum(first, second << 3);
-        i += 1;
+    let mut first = slope.wrapping_add(bend.wrapping_sub(bend << LG));
+    let mut p = guess_at(LG, n0);
+    for i in 0..EIGHTS {
+        let from = at + 8 * i;
+        eight(p, first, second, &mut guesses[from..from + 8]);
+        let bent = (second << 5).wrapping_sub(second << 2);
+        p = p.wrapping_add((first << 3).wrapping_add(bent));
+        first = first.wrapping_add(second << 3);
     }
 }
 
 // The guesses of all columns, each at a node of its own.
-fn guess_each(lg: u64, size: u64, s: Walk, t: Walk, d: Walk, count: u64, guesses: &mut [u64; 512])
-    requires { (lg ≤ 4) × Walks size s d count × Walks size t d count × (length guesses.old ≡ 512) }
-    ensures { length guesses.new ≡ 512 }
+fn guess_each(lg: u64, stretch: EvenStretch, guesses: &mut [u64; 512])
+    requires { lg ≤ 4 }
 {
-    let mut i: u64 = 0;
-    while i < count {
-        guesses[i as usize] = guess_at(lg, node_at(lg, size, s, t, d, count, i));
-        i += 1;
+    for i in 0..stretch.count {
+        guesses[i] = guess_at(lg, node_at(lg, stretch, i));
     }
 }
 
-// The guesses of all columns by parabolas, each of `eights` times eight columns. The last one ends at the last column.
-fn guess_bent(
-    lg: u64,
-    eights: u64,
-    size: u64,
-    s: Walk,
-    t: Walk,
-    d: Walk,
-    count: u64,
-    guesses: &mut [u64; 512],
-)
-    requires lg_bound { (lg ≤ 4) × Walks size s d count × Walks size t d count × (length guesses.old ≡ 512) }
-    requires eights_nonzero { (0 < eights) × (eights ≤ 4) × (8 * eights < count) }
-    ensures { length guesses.new ≡ 512 }
+// The guesses of all columns by parabolas, each of EIGHTS times eight columns. The last one ends at the last column.
+fn guess_bent<const LG: u64, const EIGHTS: usize>(stretch: EvenStretch, guesses: &mut [u64; 512])
+    requires { (LG ≤ 4) × (0 < EIGHTS) × (8 * EIGHTS < stretch.count) }
 {
-    let span = 8 * eights;
-    let half = 4 * eights;
-    let end = count - span;
-    let mut n0 = node_at(lg, size, s, t, d, count, 0);
-    let mut i: u64 = 0;
-    while i < end {
-        let n1 = node_at(lg, size, s, t, d, count, i + half);
-        let n2 = node_at(lg, size, s, t, d, count, i + span);
-        parabola(lg, n0, n1, n2, i, eights, guesses);
+    let span = 8 * EIGHTS;
+    let half = 4 * EIGHTS;
+    let end = stretch.count - span;
+    let mut n0 = node_at(LG, stretch, 0);
+    for i in (0..end).step_by(span) {
+        let n1 = node_at(LG, stretch, i + half);
+        let n2 = node_at(LG, stretch, i + span);
+        parabola::<LG, EIGHTS>(n0, n1, n2, i, guesses);
         n0 = n2;
-        i += span;
     }
-    let first = node_at(lg, size, s, t, d, count, end - 1);
-    let middle = node_at(lg, size, s, t, d, count, end - 1 + half);
-    let last = node_at(lg, size, s, t, d, count, count - 1);
-    parabola(lg, first, middle, last, end - 1, eights, guesses);
-    guesses[(count - 1) as usize] = guess_at(lg, last);
+    let first = node_at(LG, stretch, end - 1);
+    let middle = node_at(LG, stretch, end - 1 + half);
+    let last = node_at(LG, stretch, stretch.count - 1);
+    parabola::<LG, EIGHTS>(first, middle, last, end - 1, guesses);
+    guesses[stretch.count - 1] = guess_at(LG, last);
 }
 
-// How many times eight columns a parabola may span, 0, 1, 2 or 4: the more, the less the distance changes from column
-// to column.
-fn eights_of(slope: u64, near: u64, count: u64) -> u64
-    requires { 0 < count }
-    ensures { (result ≤ 4) × (8 * result < count) }
-{
-    if count <= 8 {
-        return 0;
-    }
-    if near / 96 < slope {
-        return 0;
-    }
-    if count <= 16 {
-        return 1;
-    }
-    if near / 256 < slope {
-        return 1;
-    }
-    if count <= 32 {
-        return 2;
-    }
-    if near / 768 < slope {
-        return 2;
-    }
-    4
-}
-
-// The guesses of all columns.
-fn guess_all(size: u64, s: Walk, t: Walk, d: Walk, count: u64, guesses: &mut [u64; 512])
-    requires { Walks size s d count × Walks size t d count × (length guesses.old ≡ 512) }
-    ensures { length guesses.new ≡ 512 }
-{
-    let first = walk_at(d, count, 0);
-    let last = walk_at(d, count, count - 1);
-    let near = if first < last { first } else { last };
-    let eights = eights_of(arithmetic::magnitude(d.slope), near, count);
-    match eights {
-        0 => guess_each(2, size, s, t, d, count, guesses),
-        1 => guess_bent(2, 1, size, s, t, d, count, guesses),
-        2 => guess_bent(3, 2, size, s, t, d, count, guesses),
-        _ => guess_bent(4, eights, size, s, t, d, count, guesses),
+// The guesses of all columns. The less the distance changes from column to column, the more of them a parabola spans.
+fn guess_all(stretch: EvenStretch, guesses: &mut [u64; 512]) {
+    let count = stretch.count;
+    let slope = stretch.distances.slope.unsigned_abs();
+    let first = walk_at(stretch.distances, count, 0);
+    let near = first.min(walk_at(stretch.distances, count, count - 1));
+    if count <= 8 || near / 96 < slope {
+        guess_each(2, stretch, guesses);
+    } else if count <= 16 || near / 256 < slope {
+        guess_bent::<2, 1>(stretch, guesses);
+    } else if count <= 32 || near / 768 < slope {
+        guess_bent::<3, 2>(stretch, guesses);
+    } else {
+        guess_bent::<4, 4>(stretch, guesses);
     }
 }
 
 // ---- both
 
-// T + 32 of each column of a stretch, and of its row; s and t are their sums, d the distance. False where a guess is
-// not confirmed: nothing is said of the table then.
+// T + 32 of each column of a stretch, and of its row. False where a guess is not confirmed: nothing is said of the
+// tables then.
 pub fn plain_positions(
-    size: u64,
-    s: Walk,
-    t: Walk,
-    d: Walk,
-    count: u64,
+    stretch: EvenStretch,
     guesses: &mut [u64; 512],
-    positions: &mut [u32; 1024],
+    columns: &mut [u32; 512],
+    rows: &mut [u32; 512],
 ) -> bool
-    requires walks { Walks size s d count × Walks size t d count }
-    requires guesses_len { (length guesses.old ≡ 512) × (length positions.old ≡ 1024) }
-    ensures { (result ≡ true → Plain size s d 0 count positions.new
-        × Plain size t d 512 count positions.new)
-        × (length guesses.new ≡ 512) × (length positions.new ≡ 1024) }
+    ensures { result ≡ true → Plain stretch.size stretch.columns stretch.distances stretch.count columns.new
+        × Plain stretch.size stretch.rows stretch.distances stretch.count rows.new }
 {
-    guess_all(size, s, t, d, count, guesses);
-    confirm(size, s, t, d, count, guesses, positions)
+    guess_all(stretch, guesses);
+    confirm(stretch, guesses, columns, rows)
 }

@@ -1,7 +1,7 @@
 -- The rays of a run of the target: those of the places at its indices, rotated, are the start moved by the coordinates
 -- of the columns.
 use mathlib.Core.Path.{◌≡◌, refl, sym, ◌∙◌, ap, ap₂, subst, subst₂}
-use mathlib.Core.Bool.{true, true≢false}
+use mathlib.Core.Bool.{Bool, true, true≢false}
 use mathlib.Core.List.{List, [], ◌∷◌}
 use Prim.Native.Nat.{ℕ, ◌+◌, ◌*◌, ◌-◌, ◌/◌, ◌%◌, ◌≤◌, ◌<◌}
 use native.Mathlib.Nat.{mod-lt, le_trans, le_of_lt, mul-le-mul_left}
@@ -11,6 +11,7 @@ use lib.ListN.{length}
 use lib.Signed.{◌≤ℤ◌}
 use Rattle.arithmetic.proofs.Ring.{var, con, ◌⊕◌, ◌⊗◌, ◌⊝◌, solve}
 use Rattle.cubemap.specs.declared.Format.{Format}
+use Rattle.cubemap.specs.declared.Ray.{Ray}
 use Rattle.cubemap.specs.Frames.{place, layout_bytes, plane_samples, face_in, quarter_turns_in, Spot, spot, quarter_turns}
 use Rattle.cubemap.specs.Frames.{place_at}
 use Rattle.cubemap.specs.PlaceToRay.{N, scale, from_centre, face_coordinate, ray_of}
@@ -25,16 +26,29 @@ use Rattle.stretches.specs.Numbers.{Evenly}
 use Rattle.resampling.specs.declared.RowRays.{RowRays}
 use Rattle.resampling.specs.RowOfRays.{ray_at, RowReady}
 use Rattle.planes.specs.declared.Conversion.{Conversion}
-use Rattle.planes.specs.TargetPlane.{slot_ray, evenly_spaced, slot_of_run, run_rays, TargetReady}
+use Rattle.planes.specs.TargetPlane.{slot_ray, run_start, run_slope, evenly_spaced, slot_of_run, run_rays, TargetReady}
 use Rattle.planes.proofs.SlotRays.{slot-ray, run-slot, run-spot, slot-slope, slot-place-ray}
 
+-- the rays of a run, from what they are made of
+pub rays-are : (c : Conversion) (table : List ℤ) (run : ℕ) {face turns : ℕ} {v : ℤ} {start slope : Ray} {even : Bool}
+    → let slot : ℕ = slot_of_run c.target.size run in
+    face ≡ face_in (layout_bytes c.target.layout) slot → turns ≡ quarter_turns_in (layout_bytes c.target.layout) slot
+    → v ≡ coordinate_at table (run / 3 % c.target.size) → start ≡ run_start c.rotation c.target face turns v
+    → slope ≡ run_slope c.rotation face turns → even ≡ evenly_spaced c.target.format
+    → record { start = start; slope = slope; evenly = even } ≡ run_rays c table run
+rays-are c table run f t v s p e = λ i. record {
+  start = (s ∙ (λ j. run_start c.rotation c.target (f j) (t j) (v j))) i;
+  slope = (p ∙ ap₂ (run_slope c.rotation) f t) i;
+  evenly = e i;
+}
+
 module _ (c : Conversion) (table : List ℤ) (ready : TargetReady c table) (run : ℕ)
-    (h : run < 6 * c.target.cube.size) where
+    (h : run < 6 * c.target.size) where
   abbrev A : ℕ
-  A = c.target.cube.size
+  A = c.target.size
 
   abbrev format : Format
-  format = c.target.cube.format
+  format = c.target.format
 
   abbrev L : List ℕ
   L = layout_bytes c.target.layout
@@ -134,8 +148,8 @@ module _ (c : Conversion) (table : List ℤ) (ready : TargetReady c table) (run 
   plain Format.Cmp t = refl
   plain Format.Acp t = absurd (true≢false (sym t))
 
-  pub run_row : RowReady rays table
-  run_row = record {
+  pub row-ready : RowReady rays table
+  row-ready = record {
     in-range = record {
       start-ok = (rotated-ray c.rotation _ ready.rotation-in-range ready.rotation-nonzero
           (slot-place-ray face turns (pos (scale format A)) (pos 0) (coordinate_at table row)

@@ -8,21 +8,20 @@ use Rattle.cubemap.specs.PlaceToRay.{scale, face_coordinate, table3, ray_of}
 use Rattle.cubemap.specs.Rotations.{rotated}
 use Rattle.cubemap.specs.Checks.{layout_ok, rotation_in_range, rotation_nonzero}
 use Rattle.positions.specs.RayLines.{coordinate_at}
-use Rattle.sampling.specs.declared.Cube.{Cube}
-use Rattle.resampling.specs.declared.Row.{Row}
 use Rattle.resampling.specs.declared.RowRays.{RowRays}
 use Rattle.resampling.specs.RowOfRays.{value_on}
+use Rattle.planes.specs.declared.Target.{Target}
 use Rattle.planes.specs.declared.Conversion.{Conversion}
 
 -- ---- what it is given
 
 -- the coordinates of a face's columns, the layout, and the rotation
 pub record TargetReady (c : Conversion) (coordinates : List ℤ) : Type 0 where
-  pub size-least : 1 ≤ c.target.cube.size
-  pub size-most : c.target.cube.size ≤ 512
-  pub columns : length coordinates ≡ c.target.cube.size
-  pub coordinate : (m : ℕ) → m < c.target.cube.size
-      → coordinate_at coordinates m ≡ face_coordinate c.target.cube.format c.target.cube.size m
+  pub size-least : 1 ≤ c.target.size
+  pub size-most : c.target.size ≤ 512
+  pub columns : length coordinates ≡ c.target.size
+  pub coordinate : (m : ℕ) → m < c.target.size
+      → coordinate_at coordinates m ≡ face_coordinate c.target.format c.target.size m
   pub layout-ok : T (layout_ok (layout_bytes c.target.layout))
   pub rotation-in-range : T (rotation_in_range c.rotation)
   pub rotation-nonzero : T (rotation_nonzero c.rotation)
@@ -35,9 +34,9 @@ abbrev pub slot_ray : ℕ → ℕ → ℤ → ℤ → ℤ → Ray
 slot_ray f zero s u v = table3 f s u v
 slot_ray f (suc k) s u v = slot_ray f k s v (neg_ℤ u)
 
--- a run's rotated ray where the coordinate of the column is 0: rotation, cube of the target, face and turns of the
--- slot, the row's coordinate
-abbrev pub run_start : Rotation → Cube → ℕ → ℕ → ℤ → Ray
+-- a run's rotated ray where the coordinate of the column is 0: rotation, target, face and turns of the slot, the row's
+-- coordinate
+abbrev pub run_start : Rotation → Target → ℕ → ℕ → ℤ → Ray
 run_start t b f k v = rotated t (slot_ray f k (pos (scale b.format b.size)) (pos 0) v)
 
 -- and how far it moves for each unit of that coordinate
@@ -53,11 +52,11 @@ evenly_spaced Format.Acp = false
 abbrev pub slot_of_run : ℕ → ℕ → ℕ
 slot_of_run A run = run / 3 / A * 3 + run % 3
 
--- its rays, and what is read along them
+-- its rays
 abbrev pub run_rays : Conversion → List ℤ → ℕ → RowRays
 run_rays c coordinates run =
-    let b = c.target.cube in
-    let L = layout_bytes c.target.layout in
+    let b = c.target in
+    let L = layout_bytes b.layout in
     let slot = slot_of_run b.size run in
     record {
       start = run_start c.rotation b (face_in L slot) (quarter_turns_in L slot)
@@ -66,14 +65,10 @@ run_rays c coordinates run =
       evenly = evenly_spaced b.format;
     }
 
-abbrev pub run_row : Conversion → List ℤ → ℕ → Row
-run_row c coordinates run = record { reading = c.source; rays = run_rays c coordinates run }
-
 -- ---- what it gives
 
 -- the target's sample at an index
-abbrev pub value_at_index : Conversion → List ℕ → List ℤ → ℕ → ℕ
-value_at_index c plane strides i =
-    value_on c.source plane strides
-    (rotated c.rotation (ray_of c.target.cube.format c.target.cube.size
-    (place_at c.target.cube.size (layout_bytes c.target.layout) i)))
+abbrev pub value_at_index : Conversion → ℕ → ℕ
+value_at_index c i =
+    value_on c.source (rotated c.rotation (ray_of c.target.format c.target.size
+    (place_at c.target.size (layout_bytes c.target.layout) i)))

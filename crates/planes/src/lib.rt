@@ -6,61 +6,29 @@
 ghost use Rattle.std.specs.Prelude.{◌≡◌, ◌*◌, ◌≤◌, ◌<◌, T, nat_abs, length};
 ghost use Rattle.cubemap.specs.Frames.{plane_samples, framed};
 ghost use Rattle.cubemap.specs.Checks.{rotation_in_range};
-ghost use Rattle.cubic.specs.Sources.{Source};
-ghost use Rattle.planes.specs.TargetPlane.{slot_ray, run_start, run_slope, evenly_spaced, run_row, TargetReady};
-ghost use Rattle.planes.specs.TargetPlane.{value_at_index};
+ghost use Rattle.planes.specs.TargetPlane.{run_start, run_slope, evenly_spaced, run_rays, TargetReady, value_at_index};
 
 use cubemap::{Format, Layout, Ray, Rotation};
-use resampling::{Row, RowRays};
-use sampling::{Cube, Reading};
+use resampling::{Reading, Row, RowRays};
+use slot::Slot;
+use stretches::Tables;
 
-// What a conversion writes: the cube of the target, and its layout.
+mod slot;
+
+// What a conversion writes: the face size and the format of the target's cube, and its layout.
 #[derive(Clone, Copy)]
 pub struct Target {
-    pub cube: Cube,
+    pub size: u64,
+    pub format: Format,
     pub layout: Layout,
 }
 
 // What a conversion goes by.
 #[derive(Clone, Copy)]
-pub struct Conversion {
-    pub source: Reading,
+pub struct Conversion<'a> {
+    pub source: Reading<'a>,
     pub target: Target,
     pub rotation: Rotation,
-}
-
-// ---- rays along a run
-
-// The ray at a spot of a slot whose face is turned this many times: u is the coordinate of the spot's column, v that of
-// its row.
-fn slot_ray(face: u64, turns: u64, s: i64, u: i64, v: i64) -> Ray
-    requires { (face < 6) × (turns < 4) × (nat_abs s ≤ 65536) × (nat_abs u ≤ 65536) × (nat_abs v ≤ 65536) }
-    ensures { result ≡ slot_ray face turns s u v }
-{
-    match turns {
-        0 => geometry::table3(face, s, u, v),
-        1 => geometry::table3(face, s, v, 0 - u),
-        2 => geometry::table3(face, s, 0 - u, 0 - v),
-        _ => geometry::table3(face, s, 0 - v, u),
-    }
-}
-
-// Where a run starts: its rotated ray at a column whose coordinate is 0. v is the coordinate of its row in the slot.
-fn run_start(t: Rotation, cube: Cube, face: u64, turns: u64, v: i64) -> Ray
-    requires { T (rotation_in_range t) × (cube.size ≤ 512) × (face < 6) × (turns < 4) × (nat_abs v ≤ 65536) }
-    ensures { result ≡ run_start t cube face turns v }
-{
-    let format = cube.format;
-    let s = geometry::scale(format, cube.size) as i64;
-    rotation::rotate(t, slot_ray(face, turns, s, 0, v))
-}
-
-// How far its rotated ray moves for each unit of the columns' coordinate.
-fn run_slope(t: Rotation, face: u64, turns: u64) -> Ray
-    requires { T (rotation_in_range t) × (face < 6) × (turns < 4) }
-    ensures { result ≡ run_slope t face turns }
-{
-    rotation::rotate(t, slot_ray(face, turns, 0, 1, 0))
 }
 
 // Are the columns of a target in this format evenly spaced? Those of adjusted faces are not.
@@ -73,75 +41,66 @@ fn evenly(format: Format) -> bool
     }
 }
 
-// Run number `run` of the target, in the order of indices: three runs a row of the frame.
-fn run_row(c: Conversion, coordinates: &[i64], run: u64) -> Row
-    requires { TargetReady c coordinates.now × (run < 6 * c.target.cube.size) }
-    ensures { result ≡ run_row c coordinates.now run }
-{
-    let goal = c.target;
-    let cube = goal.cube;
-    let layout = goal.layout;
-    let size = cube.size;
-    let format = cube.format;
-    let frame_row = run / 3;
-    let slot = frame_row / size * 3 + run % 3;
-    let face = frame::face_in(layout, slot);
-    let turns = frame::turns_in(layout, slot);
-    let v = coordinates[(frame_row % size) as usize];
-    let rays = RowRays {
-        start: run_start(c.rotation, cube, face, turns, v),
-        slope: run_slope(c.rotation, face, turns),
-        evenly: evenly(format),
-    };
-    let reading = c.source;
-    Row {
-        reading: reading,
-        rays: rays,
+impl<'a> Conversion<'a> {
+    // Where a run starts: its rotated ray at a column whose coordinate is 0. v is the coordinate of its row in the
+    // slot.
+    fn run_start(self, slot: Slot, v: i64) -> Ray
+        requires { T (rotation_in_range self.rotation) × (self.target.size ≤ 512) × (nat_abs v ≤ 65536) }
+        ensures { result ≡ run_start self.entry.rotation self.entry.target slot.face slot.turns v }
+    {
+        let s = geometry::scale(self.target.format, self.target.size) as i64;
+        rotation::rotate(self.rotation, slot.ray(s, 0, v))
+    }
+
+    // How far its rotated ray moves for each unit of the columns' coordinate.
+    fn run_slope(self, slot: Slot) -> Ray
+        requires { T (rotation_in_range self.rotation) }
+        ensures { result ≡ run_slope self.entry.rotation slot.face slot.turns }
+    {
+        rotation::rotate(self.rotation, slot.ray(0, 1, 0))
+    }
+
+    // Run number `run` of the target, in the order of indices: three runs a row of the frame.
+    fn run_row(self, coordinates: &'a [i64], run: u64) -> Row<'a>
+        requires { TargetReady self coordinates.now × (run < 6 * self.target.size) }
+        ensures { (result.reading ≡ self.entry.source) × (result.coordinates ≡ coordinates.entry)
+            × (result.rays ≡ run_rays self.entry coordinates.now run) }
+    {
+        let size = self.target.size;
+        let frame_row = run / 3;
+        let number = frame_row / size * 3 + run % 3;
+        let slot = Slot {
+            face: frame::face_in(self.target.layout, number),
+            turns: frame::turns_in(self.target.layout, number),
+        };
+        let v = coordinates[(frame_row % size) as usize];
+        let rays = RowRays {
+            start: self.run_start(slot, v),
+            slope: self.run_slope(slot),
+            evenly: evenly(self.target.format),
+        };
+        Row {
+            reading: self.source,
+            rays,
+            coordinates,
+        }
     }
 }
 
-// ---- the plane
-
 // The whole plane of the target, run by run.
-pub fn convert_plane(
-    c: Conversion,
-    source: &[u8],
-    strides: &[i64; 18],
-    weights: &[i64; 256],
-    coordinates: &[i64],
-    target: &mut [u8],
-)
-    requires source { Source c.source.cube.size c.source.depth source.now strides.now weights.now
-        × TargetReady c coordinates.now }
-    requires target_len { length target.old ≡ 2 * plane_samples c.target.cube.size }
-    ensures { target.new ≡ framed 2 (value_at_index c source.now strides.now)
-        (plane_samples c.target.cube.size) }
+pub fn convert_plane(c: Conversion<'_>, coordinates: &[i64], target: &mut [u8])
+    requires { TargetReady c coordinates.now × (length target.old ≡ 2 * plane_samples c.target.size) }
+    ensures { target.new ≡ framed 2 (value_at_index c.entry) (plane_samples c.entry.target.size) }
 {
-    let goal = c.target;
-    let cube = goal.cube;
-    let size = cube.size;
-    let runs = 6 * size;
-    let mut guesses = [0; 512];
-    let mut distances = [0; 512];
-    let mut reciprocals = [0; 512];
-    let mut positions = [0; 1024];
-    let mut run: u64 = 0;
-    while run < runs {
-        let row = run_row(c, coordinates, run);
+    let size = c.target.size;
+    let mut tables = Tables::new();
+    for run in 0..6 * size {
         let first = 2 * (run * size) as usize;
         let last = first + 2 * size as usize;
         resampling::convert_along(
-            row,
-            source,
-            strides,
-            weights,
-            coordinates,
-            &mut guesses,
-            &mut distances,
-            &mut reciprocals,
-            &mut positions,
+            c.run_row(coordinates, run),
+            &mut tables,
             &mut target[first..last],
         );
-        run += 1;
     }
 }

@@ -1,5 +1,5 @@
 -- Positions along a row: the numbers of its rays change evenly with the coordinate of the column.
-use Rattle.std.specs.Prelude.{◌≡◌, List, ℕ, ◌+◌, ◌≤◌, ◌<◌, ℤ, pos, nat_abs, ◌+ℤ◌, ◌-ℤ◌, ◌*ℤ◌, length, get_or}
+use Rattle.std.specs.Prelude.{◌≡◌, List, ℕ, ◌≤◌, ◌<◌, ℤ, pos, nat_abs, ◌+ℤ◌, ◌-ℤ◌, ◌*ℤ◌, length, get_or}
 use Rattle.cubemap.specs.declared.Format.{Format}
 use Rattle.cubemap.specs.RayToPlace.{position64}
 use Rattle.positions.specs.declared.Line.{Line}
@@ -8,6 +8,10 @@ use Rattle.positions.specs.Ratios.{Ratio}
 -- the number where the coordinate is a
 abbrev pub line_at : Line → ℤ → ℤ
 line_at l a = l.start +ℤ a *ℤ l.slope
+
+-- the sum of two lines
+abbrev pub sum_line : Line → Line → Line
+sum_line a b = record { start = a.start +ℤ b.start; slope = a.slope +ℤ b.slope }
 
 -- both numbers of a line are within question 13
 pub record LineInRange (l : Line) : Type 0 where
@@ -40,9 +44,9 @@ position_at format A line distance coordinates j =
     (line_at line (coordinate_at coordinates j))
     (nat_abs (line_at distance (coordinate_at coordinates j)))
 
--- the table has T + 32 of each column of a stretch, which is never negative, from the entry `at` on. Nothing is said of
--- the other entries.
-pub record Positioned (format : Format) (A : ℕ) (line distance : Line) (coordinates : List ℤ) (at : ℕ) (table : List ℕ)
+-- the table begins with T + 32 of each column of a stretch, which is never negative. Nothing is said of the entries
+-- after these.
+pub record Positioned (format : Format) (A : ℕ) (line distance : Line) (coordinates : List ℤ) (table : List ℕ)
     : Type 0 where
   pub entry : (j : ℕ) → j < length coordinates
-      → position_at format A line distance coordinates j ≡ pos (get_or table (at + j) 0) -ℤ pos 32
+      → position_at format A line distance coordinates j ≡ pos (get_or table j 0) -ℤ pos 32

@@ -3,40 +3,44 @@
 // bytes where these are known.
 #![tactic(auto)]
 
-ghost use Rattle.std.specs.Prelude.{length};
-ghost use Rattle.rays.specs.Inputs.{Within, ReadsFront, Printed};
+ghost use Rattle.std.specs.Prelude.{◌≤◌, length, IfOk};
+ghost use Rattle.rays.specs.Inputs.{ReadsFront, Printed};
 
-use std::io::{Error, Read, Write};
+use std::fmt;
+use std::io::{self, Read, Write};
 use std::process::ExitCode;
-
-// What reading comes to.
-#[derive(Clone, Copy)]
-enum Input {
-    Bytes(usize),
-    Failed(Error),
-}
 
 // Which stream failed, and why.
 #[derive(Clone, Copy)]
 enum Failure {
-    Input(Error),
-    Output(Error),
+    Input(io::Error),
+    Output(io::Error),
 }
 
-// Reads until the buffer is full or the input ends.
-fn read_input<R: Read>(reader: &mut R, buffer: &mut [u8]) -> Input
-    ensures within { Within result (length buffer.new) }
-    ensures front { ReadsFront result (R.remaining reader.old) (R.remaining reader.new) buffer.new }
+impl fmt::Display for Failure {
+    fn fmt<W: fmt::Write>(&self, f: &mut fmt::Formatter<W>) -> fmt::Result {
+        match self {
+            Failure::Input(error) => write!(f, "standard input: {error}"),
+            Failure::Output(error) => write!(f, "standard output: {error}"),
+        }
+    }
+}
+
+// Reads until the buffer is full or the input ends, and answers how many bytes were read. (std's read_exact takes a
+// full buffer alone, and read_to_end a Vec.)
+fn read_input<R: Read>(reader: &mut R, buffer: &mut [u8]) -> io::Result<usize>
+    ensures within { IfOk result (λ n. n ≤ length buffer.new) }
+    ensures front { IfOk result (λ n. ReadsFront n (R.remaining reader.old) (R.remaining reader.new) buffer.new) }
 {
     let mut end = 0;
     while end < buffer.len() {
-        match reader.read(&mut buffer[end..]) {
-            Ok(0) => return Input::Bytes(end),
-            Ok(more) => end += more,
-            Err(error) => return Input::Failed(error),
+        let more = reader.read(&mut buffer[end..])?;
+        if more == 0 {
+            return Ok(end);
         }
+        end += more;
     }
-    Input::Bytes(end)
+    Ok(end)
 }
 
 // Reads the input and writes its listing.
@@ -44,31 +48,18 @@ fn print_listing<R: Read, W: Write>(reader: &mut R, writer: &mut W) -> Result<()
     ensures { Printed result (R.remaining reader.old) (W.contents writer.old) (W.contents writer.new) }
 {
     let mut input = [0u8; listing::LIMIT];
-    let read = match read_input(reader, &mut input) {
-        Input::Bytes(read) => read,
-        Input::Failed(error) => return Err(Failure::Input(error)),
-    };
+    let read = read_input(reader, &mut input).map_err(Failure::Input)?;
     let mut text = [0u8; listing::LONGEST];
     let written = listing::list(&input[..read], &mut text);
-    match writer.write_all(&text[..written]) {
-        Ok(()) => Ok(()),
-        Err(error) => Err(Failure::Output(error)),
-    }
-}
-
-// Says on standard error which stream failed and why.
-fn report(rt: &impl Eprint, failure: Failure) {
-    let _ = match failure {
-        Failure::Input(error) => eprintln!(rt; "rays: standard input: {error}"),
-        Failure::Output(error) => eprintln!(rt; "rays: standard output: {error}"),
-    };
+    writer.write_all(&text[..written]).map_err(Failure::Output)?;
+    Ok(())
 }
 
 fn main(rt: HostRuntime) -> ExitCode {
     match print_listing(&mut rt.stdin(), &mut rt.stdout()) {
         Ok(()) => ExitCode::SUCCESS,
         Err(failure) => {
-            report(&rt, failure);
+            let _ = eprintln!(rt; "rays: {failure}");
             ExitCode::FAILURE
         }
     }

@@ -1,59 +1,23 @@
-// Reciprocals of the distances along a stretch: guessed, and confirmed in whole numbers. A guess is never relied on, so that nothing is proved of it.
+// Reciprocals of the distances along a stretch: guessed, and confirmed in whole numbers. A guess is never relied on, so
+// that nothing is proved of it.
 #![tactic(auto)]
 
-ghost use Rattle.std.specs.Prelude.{◌≡◌, true, ◌+◌, ◌*◌, ◌^◌, ◌≤◌, ◌<◌, length, get_or};
-ghost use Rattle.reciprocals.specs.Reciprocals.{Distances, Reciprocals};
+ghost use Rattle.std.specs.Prelude.{◌≡◌, true, ◌+◌, ◌*◌, ◌^◌, ◌≤◌, ◌<◌, length, IfSome};
+ghost use Rattle.reciprocals.specs.Reciprocals.{Reciprocals};
 
-// The scale of a stretch, 2^(31 + shift), and whether each guess was confirmed.
-#[derive(Clone, Copy)]
-pub struct Scale {
-    pub shift: u64,
-    pub good: bool,
-}
+mod distances;
 
-// A table's number in 64 bits.
-fn wide(x: u32) -> u64
-    ensures { (result ≡ x) × (result < 4294967296) }
-{
-    x as u64
-}
-
-// The bits of two numbers: together they are no less than either.
-fn together(a: u64, b: u64) -> u64
-    ensures { (a ≤ result) × (b ≤ result) }
-{
-    a | b
-}
+pub use distances::{DistanceTable, ReciprocalTable};
 
 // ---- the scale
 
-// The place of a number's highest bit, at most 29, by halving.
-fn highest_bit(number: u64) -> u64
+// A scale that suits both ends of a stretch, 2^(31 + shift).
+fn scale_of(distances: DistanceTable<'_>) -> u64
+    requires { 0 < length distances.each.now }
     ensures { result ≤ 29 }
 {
-    let mut x = number;
-    let mut place: u64 = 0;
-    let mut half: u64 = 16;
-    while 0 < half {
-        let upper = x >> half;
-        if 0 < upper {
-            x = upper;
-            place += half;
-        }
-        half = half / 2;
-    }
-    if place < 29 { place } else { 29 }
-}
-
-// A scale that suits both ends of a stretch.
-fn scale_of(distances: &[u32; 512], from: u64, to: u64) -> u64
-    requires { (from < to) × (to ≤ 512) }
-    ensures { result ≤ 29 }
-{
-    highest_bit(together(
-        wide(distances[from as usize]),
-        wide(distances[(to - 1) as usize]),
-    ))
+    let last = distances.each.len() - 1;
+    u64::from((distances.each[0] | distances.each[last]).ilog2().min(29))
 }
 
 // The number that is divided: 2^(31 + shift) - 1.
@@ -66,101 +30,89 @@ fn dividend(shift: u64) -> u64
 
 // ---- guesses
 
-// The quotient at a column, in 32 bits.
-fn quotient(dividend: u64, distances: &[u32; 512], j: u64) -> u64
-    requires { (j < 512) × (0 < get_or distances.now j 0) }
-    ensures { result < 4294967296 }
-{
-    dividend / wide(distances[j as usize]) % 4294967296
-}
-
 // Guesses by division.
-fn divided(dividend: u64, distances: &[u32; 512], from: u64, to: u64, guesses: &mut [u32; 512])
-    requires { (to ≤ 512) × Distances distances.now from to × (length guesses.old ≡ 512) }
-    ensures { length guesses.new ≡ 512 }
+fn divided(dividend: u64, distances: DistanceTable<'_>, guesses: &mut [u32])
+    requires { length guesses.old ≤ length distances.each.now }
+    ensures { length guesses.new ≡ length guesses.old }
 {
-    let mut j = from;
-    while j < to {
-        guesses[j as usize] = quotient(dividend, distances, j) as u32;
-        j += 1;
+    for (j, guess) in guesses.iter_mut().enumerate() {
+        *guess = distances.quotient(dividend, j) as u32;
     }
 }
 
-// Eight guesses on the chord between two quotients. 2^35 is added to a step, which keeps it above 0; an eighth of that is gone in 32 bits.
-fn chord(first: u64, last: u64, from: u64, guesses: &mut [u32; 512])
-    requires { (first < 4294967296) × (last < 4294967296) × (from + 8 ≤ 512) × (length guesses.old ≡ 512) }
-    ensures { length guesses.new ≡ 512 }
+// Eight guesses on the chord between two quotients. 2^35 is added to a step, which keeps it above 0; an eighth of that
+// is gone in 32 bits.
+fn chord(first: u64, last: u64, guesses: &mut [u32])
+    requires { (first < 4294967296) × (last < 4294967296) × (length guesses.old ≤ 8) }
+    ensures { length guesses.new ≡ length guesses.old }
 {
     let step = last + 34359738368 - first;
     let mut eightfold = 8 * first;
-    let mut i: u64 = 0;
-    while i < 8 {
-        guesses[(from + i) as usize] = (eightfold / 8 % 4294967296) as u32;
+    for guess in guesses.iter_mut() {
+        *guess = (eightfold / 8 % 4294967296) as u32;
         eightfold += step;
-        i += 1;
     }
 }
 
-// How far two distances are apart.
-fn apart(a: u64, b: u64) -> u64
-    requires { (a ≤ 536870911) × (b ≤ 536870911) }
-    ensures { result ≤ 536870911 }
+// Eight guesses: by the chord between the quotients at the first column and at the ninth where the distances change
+// little, else by division.
+fn eight(dividend: u64, first: u64, last: u64, distances: DistanceTable<'_>, guesses: &mut [u32])
+    requires { (first < 4294967296) × (last < 4294967296) × (length distances.each.now ≡ 9)
+        × (length guesses.old ≡ 8) }
+    ensures { length guesses.new ≡ length guesses.old }
 {
-    if a < b { b - a } else { a - b }
-}
-
-// Eight guesses from column j on: by the chord between the quotients at j and j + 8 where the distances change little, else by division.
-fn eight(
-    dividend: u64,
-    first: u64,
-    last: u64,
-    distances: &[u32; 512],
-    j: u64,
-    guesses: &mut [u32; 512],
-)
-    requires first_bound { (first < 4294967296) × (last < 4294967296) × (j + 8 < 512) }
-    requires distances { Distances distances.now j (j + 9) × (length guesses.old ≡ 512) }
-    ensures { length guesses.new ≡ 512 }
-{
-    let a = wide(distances[j as usize]);
-    let b = wide(distances[(j + 8) as usize]);
-    if 8 * apart(a, b) <= a {
-        chord(first, last, j, guesses);
+    let a = distances.each[0];
+    if 8 * a.abs_diff(distances.each[8]) <= a {
+        chord(first, last, guesses);
     } else {
-        divided(dividend, distances, j, j + 8, guesses);
+        divided(dividend, distances, guesses);
     }
 }
 
-// Guesses by the chords between every eighth quotient. The last chord ends at the last column, and overlaps the one before.
-fn chords(dividend: u64, distances: &[u32; 512], from: u64, to: u64, guesses: &mut [u32; 512])
-    requires { (from < to) × (to ≤ 512) × Distances distances.now from to × (length guesses.old ≡ 512) }
-    ensures { length guesses.new ≡ 512 }
+// Guesses by the chords between every eighth quotient. The last chord ends at the last column, and overlaps the one
+// before.
+fn chords(dividend: u64, distances: DistanceTable<'_>, guesses: &mut [u32])
+    requires { (0 < length distances.each.now) × (length distances.each.now ≤ 512)
+        × (length guesses.old ≡ length distances.each.now) }
+    ensures { length guesses.new ≡ length guesses.old }
 {
-    if to < from + 9 {
-        divided(dividend, distances, from, to, guesses);
+    let end = distances.each.len() - 1;
+    if end < 8 {
+        divided(dividend, distances, guesses);
         return;
     }
-    let mut j = from;
-    let mut first = quotient(dividend, distances, from);
-    while j + 8 < to {
-        let last = quotient(dividend, distances, j + 8);
-        eight(dividend, first, last, distances, j, guesses);
+    let mut first = distances.quotient(dividend, 0);
+    for i in 0..end / 8 {
+        let j = 8 * i;
+        let last = distances.quotient(dividend, j + 8);
+        eight(
+            dividend,
+            first,
+            last,
+            distances.nine(j),
+            &mut guesses[j..j + 8],
+        );
         first = last;
-        j += 8;
     }
-    if j + 1 < to {
-        let tail = to - 9;
-        let near = quotient(dividend, distances, tail);
-        first = quotient(dividend, distances, to - 1);
-        eight(dividend, near, first, distances, tail, guesses);
+    if end % 8 != 0 {
+        let tail = end - 8;
+        let near = distances.quotient(dividend, tail);
+        first = distances.quotient(dividend, end);
+        eight(
+            dividend,
+            near,
+            first,
+            distances.nine(tail),
+            &mut guesses[tail..end],
+        );
     }
-    guesses[(to - 1) as usize] = first as u32;
+    guesses[end] = first as u32;
 }
 
 // ---- confirmation
 
-// A step of Newton's, guess·(2 - guess·distance) on the scale. `twice` is 2·2^31 and 2^61, which keeps the difference above 0 and is gone in 32 bits; one less
-// rounds down.
+// A step of Newton's, guess·(2 - guess·distance) on the scale. `twice` is 2·2^31 and 2^61, which keeps the difference
+// above 0 and is gone in 32 bits; one less rounds down.
 fn improved(twice: u64, shift: u64, distance: u64, guess: u64) -> u64
     requires { (2305843009213693952 ≤ twice) × (shift ≤ 29) × (distance ≤ 536870911) × (guess < 4294967296) }
     ensures { result < 4294967296 }
@@ -169,60 +121,48 @@ fn improved(twice: u64, shift: u64, distance: u64, guess: u64) -> u64
     ((guess * factor) >> 31) % 4294967296
 }
 
-// Bits that are below 2^62 only where the remainder of the dividend is 0 or more and less than four distances. 2^62 is added to it, so that no number is below 0.
+// Bits that are below 2^62 only where the remainder of the dividend is 0 or more and less than four distances. 2^62 is
+// added to it, so that no number is below 0.
 fn remainder_bits(dividend: u64, distance: u64, guess: u64) -> u64
     requires { (dividend < 1152921504606846976) × (distance ≤ 536870911) × (guess < 4294967296) }
-    ensures { result < 4611686018427387904 → (guess * distance ≤ dividend) × (dividend < guess * distance + 4 * distance) }
+    ensures { result < 4611686018427387904
+        → (guess * distance ≤ dividend) × (dividend < guess * distance + 4 * distance) }
 {
     let rest = 4611686018427387904 + dividend - guess * distance;
-    together(9223372036854775807 - rest, rest - 4 * distance)
+    (9223372036854775807 - rest) | (rest - 4 * distance)
 }
 
-// Improves the guesses by two steps, and confirms them: the bits of all columns together tell whether each is near, and each distance below 2^(shift + 1).
-fn confirmed(
-    shift: u64,
-    dividend: u64,
-    distances: &[u32; 512],
-    from: u64,
-    to: u64,
-    guesses: &mut [u32; 512],
-) -> bool
-    requires shift_bound { (shift ≤ 29) × (dividend + 1 ≡ 2147483648 * 2 ^ shift) × (dividend < 1152921504606846976) }
-    requires from_lt_to { (from < to) × (to ≤ 512) × Distances distances.now from to × (length guesses.old ≡ 512) }
-    ensures { (result ≡ true → Reciprocals shift distances.now guesses.new from to) × (length guesses.new ≡ 512) }
+// Improves the guesses by two steps, and confirms them: the bits of all columns together tell whether each is near, and
+// each distance below 2^(shift + 1).
+fn confirmed(shift: u64, distances: DistanceTable<'_>, guesses: &mut [u32]) -> bool
+    requires { (shift ≤ 29) × (length guesses.old ≡ length distances.each.now) }
+    ensures { (result ≡ true → Reciprocals shift distances.entry.each.now guesses.new)
+        × (length guesses.new ≡ length guesses.old) }
 {
+    let top = dividend(shift);
     let mut remainders: u64 = 0;
     let mut sizes: u64 = 0;
-    let mut j = from;
-    while j < to {
-        let distance = wide(distances[j as usize]);
-        let guess = wide(guesses[j as usize]);
-        let near = improved(2305843013508661248, shift, distance, guess);
+    for (j, guess) in guesses.iter_mut().enumerate() {
+        let distance = u64::from(distances.each[j]);
+        let near = improved(2305843013508661248, shift, distance, u64::from(*guess));
         let nearer = improved(2305843013508661247, shift, distance, near);
-        remainders = together(remainders, remainder_bits(dividend, distance, nearer));
-        sizes = together(sizes, distance);
-        guesses[j as usize] = nearer as u32;
-        j += 1;
+        remainders |= remainder_bits(top, distance, nearer);
+        sizes |= distance;
+        *guess = nearer as u32;
     }
     (remainders < 4611686018427387904) & (sizes < (2 << shift))
 }
 
-// The reciprocals of the distances of a stretch. Where one guess is not confirmed, `good` is false and nothing is said of the table.
-pub fn reciprocals_of(
-    distances: &[u32; 512],
-    from: u64,
-    to: u64,
-    reciprocals: &mut [u32; 512],
-) -> Scale
-    requires { (from < to) × (to ≤ 512) × Distances distances.now from to × (length reciprocals.old ≡ 512) }
-    ensures { (result.shift ≤ 29) × (result.good ≡ true → Reciprocals result.shift distances.now reciprocals.new from to)
-        × (length reciprocals.new ≡ 512) }
+// The reciprocals of the distances of a stretch, on a scale of 2^(31 + shift): the shift, where every guess was
+// confirmed. Where one was not, nothing is said of the table.
+pub fn reciprocals_of(distances: DistanceTable<'_>, reciprocals: &mut [u32]) -> Option<u64>
+    requires { (0 < length distances.each.now) × (length distances.each.now ≤ 512)
+        × (length reciprocals.old ≡ length distances.each.now) }
+    ensures found { IfSome result (λ shift. (shift ≤ 29)
+        × Reciprocals shift distances.entry.each.now reciprocals.new) }
+    ensures whole { length reciprocals.new ≡ length reciprocals.old }
 {
-    let shift = scale_of(distances, from, to);
-    let top = dividend(shift);
-    chords(top, distances, from, to, reciprocals);
-    Scale {
-        shift: shift,
-        good: confirmed(shift, top, distances, from, to, reciprocals),
-    }
+    let shift = scale_of(distances);
+    chords(dividend(shift), distances, reciprocals);
+    confirmed(shift, distances, reciprocals).then_some(shift)
 }

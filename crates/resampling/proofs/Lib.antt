@@ -1,2 +1,3 @@
 mod RowParts
 mod StretchRays
+mod Found

@@ -2,11 +2,11 @@
 -- evenly, and the positions that these give are where the rays fall.
 use mathlib.Core.Path.{◌≡◌, sym, ◌∙◌, ap, ap₂, subst}
 use mathlib.Core.List.{List}
-use Prim.Native.Nat.{ℕ, ◌+◌, ◌*◌, ◌≤◌, ◌<◌}
+use Prim.Native.Nat.{ℕ, ◌*◌, ◌≤◌, ◌<◌}
 use native.Mathlib.Omega.{arith}
 use lib.IntN.{ℤ, pos, nat_abs}
-use lib.ListN.{length, get_or}
-use Rattle.arithmetic.proofs.ListParts.{part_length, part_at}
+use lib.ListN.{length, take, get_or}
+use lib.Seq.{get_or-take}
 use Rattle.cubemap.specs.declared.Format.{Format}
 use Rattle.cubemap.specs.declared.Ray.{Ray}
 use Rattle.cubemap.specs.RayToPlace.{chosen_size, across, down, position64, located, locate}
@@ -20,7 +20,7 @@ use Rattle.positions.specs.Ratios.{Ratio}
 use Rattle.cubic.specs.PositionTables.{position_of, position_in, Positions}
 use Rattle.cubic.proofs.PositionTables.{reached-on-face}
 use Rattle.resampling.specs.declared.RowRays.{RowRays}
-use Rattle.resampling.specs.RowOfRays.{ray_at, RowReady, OneFace, line_of, columns_in, rows_in}
+use Rattle.resampling.specs.RowOfRays.{ray_at, RowReady, OneFace, line_of}
 
 module _ (A : ℕ) (a : A ≤ 512) {r : RowRays} {coordinates : List ℤ} (row : RowReady r coordinates)
     {face : ℕ} (one : OneFace r coordinates face 0 (length coordinates)) where
@@ -95,38 +95,24 @@ module _ (A : ℕ) (a : A ≤ 512) {r : RowRays} {coordinates : List ℤ} (row :
   down-stretch = stretched (down face) (in-range (down face) s.down-in t.down-in)
       (λ j h. ratio j h (down face) (down-along face r.start (coordinate j) r.slope) (ratios j h).down-ok)
 
-  -- the positions found along it, and the parts of their table that have those of the columns and of the rows
-  module _ {format : Format} {table : List ℕ} (whole : length table ≡ 1024)
-      (across-found : Positioned format A (line_of r (across face)) (line_of r (toward face)) coordinates 0 table)
-      (down-found : Positioned format A (line_of r (down face)) (line_of r (toward face)) coordinates 512 table)
-      {n : ℕ} (all : n ≡ count) where
-    abbrev columns : List ℕ
-    columns = columns_in n table
-
-    abbrev rows : List ℕ
-    rows = rows_in n table
-
-    columns-length : length columns ≡ n
-    columns-length = part_length 0 n table (omega arith) (omega (arith, row.few, all, whole)) ∙ omega arith
-
-    rows-length : length rows ≡ n
-    rows-length = part_length 512 (512 + n) table (omega arith) (omega (arith, row.few, all, whole)) ∙ omega arith
-
+  -- the positions found along it, the first numbers of a table of columns and of one of rows
+  module _ {format : Format} {across-table down-table columns rows : List ℕ}
+      (across-found : Positioned format A (line_of r (across face)) (line_of r (toward face)) coordinates across-table)
+      (down-found : Positioned format A (line_of r (down face)) (line_of r (toward face)) coordinates down-table)
+      {n : ℕ} (all : n ≡ count)
+      (c : (columns ≡ take n across-table) × (length columns ≡ n))
+      (d : (rows ≡ take n down-table) × (length rows ≡ n)) where
     module _ (j : ℕ) (h : j < count) where
-      column-entry : get_or columns j 0 ≡ get_or table (0 + j) 0
-      column-entry = part_at 0 n table j 0 (omega (arith, h, all))
-
-      row-entry : get_or rows j 0 ≡ get_or table (512 + j) 0
-      row-entry = part_at 512 (512 + n) table j 0 (omega (arith, h, all))
-
       column-is : position_in columns j ≡ position64 format A (across face (ray j)) (chosen_size face (ray j))
       column-is =
-          ap position_of column-entry ∙ sym (across-found.entry j h)
+          ap position_of (ap (λ l. get_or l j 0) c.0 ∙ get_or-take n across-table j 0 (omega (arith, h, all)))
+          ∙ sym (across-found.entry j h)
           ∙ ap₂ (position64 format A) (sym (across-along face r.start (coordinate j) r.slope)) (distance_is j h)
 
       row_is : position_in rows j ≡ position64 format A (down face (ray j)) (chosen_size face (ray j))
       row_is =
-          ap position_of row-entry ∙ sym (down-found.entry j h)
+          ap position_of (ap (λ l. get_or l j 0) d.0 ∙ get_or-take n down-table j 0 (omega (arith, h, all)))
+          ∙ sym (down-found.entry j h)
           ∙ ap₂ (position64 format A) (sym (down-along face r.start (coordinate j) r.slope)) (distance_is j h)
 
       pub located-at : located face (position_in columns j) (position_in rows j) ≡ locate format A (ray j)
@@ -143,8 +129,8 @@ module _ (A : ℕ) (a : A ≤ 512) {r : RowRays} {coordinates : List ℤ} (row :
 
     pub positions : Positions A columns rows
     positions = record {
-      column-ok = λ j h. reached-on-face A (get_or columns j 0) (column_fits j (omega (arith, h, columns-length, all)));
-      row_ok = λ j h. reached-on-face A (get_or rows j 0) (row_fits j (omega (arith, h, columns-length, all)));
-      same_count = rows-length ∙ sym columns-length;
-      few = omega (arith, columns-length, all, row.few);
+      column-ok = λ j h. reached-on-face A (get_or columns j 0) (column_fits j (omega (arith, h, c.1, all)));
+      row_ok = λ j h. reached-on-face A (get_or rows j 0) (row_fits j (omega (arith, h, c.1, all)));
+      same_count = d.1 ∙ sym c.1;
+      few = omega (arith, c.1, all, row.few);
     }

@@ -1,6 +1,5 @@
 -- The rays along a row of columns, the stretches of it whose rays meet one face, and the values that are read there.
-use Rattle.std.specs.Prelude.{◌≡◌, true, List, ℕ, ◌+◌, ◌≤◌, ◌<◌, T, ℤ, nat_abs, length, ◌≤ℤ◌}
-use Rattle.arithmetic.specs.ListParts.{part}
+use Rattle.std.specs.Prelude.{◌≡◌, true, List, ℕ, ◌≤◌, ◌<◌, T, ℤ, nat_abs, length, ◌≤ℤ◌}
 use Rattle.cubemap.specs.declared.Ray.{Ray}
 use Rattle.cubemap.specs.RayToPlace.{face_of, across, down, locate}
 use Rattle.cubemap.specs.Samplers.{sample_from}
@@ -13,7 +12,7 @@ use Rattle.positions.specs.declared.Line.{Line}
 use Rattle.positions.specs.RayLines.{coordinate_at}
 use Rattle.stretches.specs.Numbers.{Evenly}
 use Rattle.strides.specs.FaceStrides.{sample_by}
-use Rattle.sampling.specs.declared.Reading.{Reading}
+use Rattle.resampling.specs.declared.Reading.{Reading}
 use Rattle.resampling.specs.declared.RowRays.{RowRays}
 
 -- ---- the rays of a row
@@ -56,22 +55,8 @@ lines_on r face = record {
 
 -- ---- what is read
 
--- the scratch tables: guesses, distances, reciprocals, and the positions of columns and rows
-pub record Scratch (guesses distances reciprocals positions : List ℕ) : Type 0 where
-  pub guesses-whole : length guesses ≡ 512
-  pub distances-whole : length distances ≡ 512
-  pub reciprocals-whole : length reciprocals ≡ 512
-  pub positions-whole : length positions ≡ 1024
-
--- the parts of the table of positions that have those of n columns, and of their rows
-abbrev pub columns_in : ℕ → List ℕ → List ℕ
-columns_in n positions = part 0 n positions
-
-abbrev pub rows_in : ℕ → List ℕ → List ℕ
-rows_in n positions = part 512 (512 + n) positions
-
 -- the sampler's value where a ray meets the source
-abbrev pub value_on : Reading → List ℕ → List ℤ → Ray → ℕ
-value_on r plane strides v =
-    sample_from r.sampler r.cube.size r.depth (sample_by plane strides)
-    (locate r.cube.format r.cube.size v)
+abbrev pub value_on : Reading → Ray → ℕ
+value_on r v =
+    let p = r.source.plane in
+    sample_from r.sampler p.size r.source.depth (sample_by p.bytes.now p.strides.now) (locate r.format p.size v)

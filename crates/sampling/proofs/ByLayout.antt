@@ -2,7 +2,6 @@
 use mathlib.Core.Path.{◌≡◌}
 use mathlib.Core.List.{List}
 use Prim.Native.Nat.{ℕ, ◌≤◌}
-use lib.IntN.{ℤ}
 use Rattle.cubemap.specs.declared.Located.{Located}
 use Rattle.cubemap.specs.declared.Sampler.{Sampler}
 use Rattle.cubemap.specs.Frames.{sample_at_place}
@@ -11,10 +10,11 @@ use Rattle.cubemap.proofs.Layouts.{LayoutHolds}
 use Rattle.cubemap.proofs.Locate.{OnFace}
 use Rattle.cubemap.proofs.Samplers.{tapped_place, tapped_place-ok, value-cong}
 use Rattle.frame.specs.LumaPlane.{luma_of}
+use Rattle.strides.specs.declared.Strides.{Strides}
 use Rattle.strides.specs.FaceStrides.{LeadsTo, sample_by}
 use Rattle.strides.proofs.StrideIndices.{sample-by-layout}
 
-pub value-by-layout : (c : Sampler) (A D : ℕ) (L : List ℕ) (table : List ℤ) (bytes : List ℕ) (p : Located)
+pub value-by-layout : (c : Sampler) (A D : ℕ) (L : List ℕ) (table : List Strides) (bytes : List ℕ) (p : Located)
     → LeadsTo A L table
     → LayoutHolds L → 1 ≤ A → OnFace A p
     → sample_from c A D (sample_by (luma_of A bytes) table) p ≡ sample_from c A D (sample_at_place bytes A L) p

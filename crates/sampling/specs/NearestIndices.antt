@@ -14,6 +14,6 @@ nearest_index A s x y = natural (index_by s (nearest_column A (position_of x)) (
 abbrev pub nearest_on : List ℕ → Strides → ℕ → ℤ → ℤ → ℕ
 nearest_on plane s A x y = sample_on_face plane s (nearest_column A x) (nearest_column A y)
 
--- a plane has samples at the first n indices in a table
-pub record InPlane (plane : List ℕ) (n : ℕ) (indices : List ℕ) : Type 0 where
-  pub index_ok : (j : ℕ) → j < n → 2 * get_or indices j 0 + 1 < length plane
+-- a plane has samples at the indices in a table
+pub record InPlane (plane indices : List ℕ) : Type 0 where
+  pub index_ok : (j : ℕ) → j < length indices → 2 * get_or indices j 0 + 1 < length plane

@@ -1,15 +1,13 @@
 // The nearest sample at each position of a stretch of one face: first the indices of all, then their samples.
 ghost use Rattle.std.specs.Prelude.{◌≡◌, ◌*◌, ◌≤◌, ◌<◌, length, get_or};
+ghost use Rattle.cubemap.specs.declared.Sampler.{Sampler};
 ghost use Rattle.cubemap.specs.Frames.{sample_at, framed};
-ghost use Rattle.cubemap.specs.RayToPlace.{located};
-ghost use Rattle.cubemap.specs.Samplers.{nearest_column, nearest_place};
-ghost use Rattle.strides.specs.FaceStrides.{Contiguous, FaceLeads, StridedFace, StridedPlane, sample_by};
-ghost use Rattle.cubic.specs.PositionTables.{position_of, position_in, Reached, Positions, Filled};
-ghost use Rattle.sampling.specs.NearestIndices.{nearest_index, nearest_on, InPlane};
+ghost use Rattle.cubemap.specs.Samplers.{nearest_column};
+ghost use Rattle.cubic.specs.PositionTables.{position_of, Reached, Filled};
+ghost use Rattle.cubic.specs.Stretches.{value_in};
+ghost use Rattle.sampling.specs.NearestIndices.{nearest_index, InPlane};
 
-use strides::Strides;
-
-// ---- on a face whose rows run along the rows of the frame
+use cubic::{AlongRows, Stretch};
 
 // The column, or row, that is nearest to a position: beyond the last column it is the last.
 fn nearest_column(size: u32, position: u32) -> u32
@@ -17,102 +15,44 @@ fn nearest_column(size: u32, position: u32) -> u32
     ensures { (result ≡ nearest_column size (position_of position)) × (result < size) }
 {
     let column = position / 64;
-    column - if column == size { 1 } else { 0 }
+    column - u32::from(column == size)
 }
 
 // The index of the sample at the nearest column and row.
-fn nearest_index(size: u64, on: Strides, column: u32, row: u32) -> u32
-    requires face_leads { FaceLeads size on × Contiguous on × (1 ≤ size) × (size ≤ 512) }
-    requires reached { Reached size column × Reached size row }
-    ensures { result ≡ nearest_index size on column row }
+fn nearest_index(along: AlongRows<'_>, column: u32, row: u32) -> u32
+    requires { Reached along.face.size column × Reached along.face.size row }
+    ensures { result ≡ nearest_index along.entry.face.size along.entry.face.strides column row }
 {
-    let m = nearest_column(size as u32, column);
-    let n = nearest_column(size as u32, row);
-    strides::index_in_row(on, m, n)
+    let size = along.face.size as u32;
+    let m = nearest_column(size, column);
+    let n = nearest_column(size, row);
+    along.face.strides.index_in_row(m, n)
 }
 
 // Stores those of all positions.
-fn nearest_indices(size: u64, on: Strides, columns: &[u32], rows: &[u32], indices: &mut [u32; 512])
-    requires face_leads { FaceLeads size on × Contiguous on × (1 ≤ size) × (size ≤ 512) }
-    requires positions { Positions size columns.now rows.now × (length indices.old ≡ 512) }
-    ensures { Filled (nearest_index size on) columns.now rows.now
-        (length columns.now) indices.new }
+fn nearest_indices(along: AlongRows<'_>, indices: &mut [u32; 512])
+    ensures { Filled (nearest_index along.entry.face.size along.entry.face.strides) along.entry.columns.now
+        along.entry.rows.now (length along.entry.columns.now) indices.new }
 {
-    let count = columns.len();
-    let mut j: usize = 0;
-    while j < count {
-        indices[j] = nearest_index(size, on, columns[j], rows[j]);
-        j += 1;
-    }
+    along.store_each(|column, row| nearest_index(along, column, row), indices);
 }
 
-// Stores the samples at the first indices, as many as the target holds.
-fn copy_indexed(plane: &[u8], indices: &[u32; 512], count: usize, target: &mut [u8])
-    requires { InPlane plane.now count indices.now × (count ≤ 512) × (length target.old ≡ 2 * count) }
-    ensures { target.new
-        ≡ framed 2 (λ j. sample_at plane.now (get_or indices.now j 0)) count }
+// Stores the samples at the indices, one after the other.
+fn copy_indexed(plane: &[u8], indices: &[u32], target: &mut [u8])
+    requires { InPlane plane.now indices.now × (length target.old ≡ 2 * length indices.now) }
+    ensures { target.new ≡ framed 2 (λ j. sample_at plane.now (get_or indices.now j 0)) (length indices.now) }
 {
-    let mut j: usize = 0;
-    while j < count {
-        let sample = frame::sample(plane, indices[j] as usize);
-        frame::put_sample(target, j, sample);
-        j += 1;
+    for (j, &index) in indices.iter().enumerate() {
+        frame::put_sample(target, j, frame::sample(plane, index as usize));
     }
 }
 
 // Stores the nearest sample at each position.
-fn nearest_in_rows(
-    size: u64,
-    plane: &[u8],
-    on: Strides,
-    columns: &[u32],
-    rows: &[u32],
-    indices: &mut [u32; 512],
-    target: &mut [u8],
-)
-    requires strided_face { StridedFace size plane.now on × Contiguous on × (1 ≤ size) }
-    requires positions { Positions size columns.now rows.now × (length target.old ≡ 2 * length columns.now)
-        × (length indices.old ≡ 512) }
-    ensures { (target.new ≡ framed 2 (λ j. nearest_on plane.now on size
-        (position_in columns.now j) (position_in rows.now j)) (length columns.now))
-        × (length indices.new ≡ 512) }
+pub fn nearest_stretch(stretch: Stretch<'_>, indices: &mut [u32; 512], target: &mut [u8])
+    requires { length target.old ≡ 2 * length stretch.columns.now }
+    ensures { target.new ≡ framed 2 (value_in Sampler.Nearest stretch.entry) (length stretch.entry.columns.now) }
 {
-    nearest_indices(size, on, columns, rows, indices);
-    copy_indexed(plane, indices, columns.len(), target);
-}
-
-// ---- on any face
-
-// Stores the nearest sample at each position of a face: where its columns run along the rows of the frame, columns and
-// rows are exchanged.
-pub fn nearest_stretch(
-    size: u64,
-    plane: &[u8],
-    strides: &[i64; 18],
-    face: u64,
-    columns: &[u32],
-    rows: &[u32],
-    indices: &mut [u32; 512],
-    target: &mut [u8],
-)
-    requires strided_plane { StridedPlane size plane.now strides.now × (face < 6) × Positions size columns.now rows.now }
-    requires target_len { (length target.old ≡ 2 * length columns.now) × (length indices.old ≡ 512) }
-    ensures { (target.new ≡ framed 2 (λ j. sample_by plane.now strides.now
-        (nearest_place size (located face (position_in columns.now j) (position_in rows.now j))))
-        (length columns.now)) × (length indices.new ≡ 512) }
-{
-    let on = strides::strides_at(strides, face);
-    if strides::runs_along(on) {
-        nearest_in_rows(size, plane, on, columns, rows, indices, target)
-    } else {
-        nearest_in_rows(
-            size,
-            plane,
-            strides::exchanged(on),
-            rows,
-            columns,
-            indices,
-            target,
-        )
-    }
+    let along = stretch.along_rows();
+    nearest_indices(along, indices);
+    copy_indexed(along.face.bytes, &indices[..along.columns.len()], target);
 }

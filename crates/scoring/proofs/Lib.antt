@@ -1,2 +1,4 @@
 mod Summing
 mod WeighedSums
+mod AlignedSums
+mod Layouts

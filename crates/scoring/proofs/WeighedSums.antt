@@ -2,13 +2,13 @@
 use mathlib.Core.Path.{◌≡◌, sym, ◌∙◌, ap}
 use mathlib.Core.List.{List}
 use Prim.Native.Nat.{ℕ, ◌*◌}
-use lib.IntN.{ℤ}
 use lib.ListN.{get_or}
 use Rattle.arithmetic.specs.Sums.{sum_below, both_terms}
 use Rattle.arithmetic.proofs.Sums.{sum-cong, sum-scale, sum-swap, both-scale, sum_both}
 use Rattle.cubemap.specs.declared.Format.{Format}
 use Rattle.cubemap.specs.Score.{weight}
 use Rattle.cubemap.proofs.Scores.{row_errors}
+use Rattle.strides.specs.declared.Strides.{Strides}
 use Rattle.strides.specs.FaceStrides.{strides_in, sample_by}
 use Rattle.weights.specs.RowWeights.{Weighed}
 use Rattle.differences.specs.RowSquares.{face_squares, faces_squares, Squares}
@@ -25,7 +25,7 @@ weighed-squares A weights sums squares i j q =
 
 -- by the row's own weights they are its errors
 pub row-errors : {format : Format} {A n : ℕ} {weights : List ℕ} → Weighed format A n weights
-    → (first : List ℕ) (s : List ℤ) (second : List ℕ) (t : List ℤ)
+    → (first : List ℕ) (s : List Strides) (second : List ℕ) (t : List Strides)
     → sum_below (λ m. get_or weights m 0 * faces_squares first s second t n m) A
     ≡ row_errors format A (sample_by first s) (sample_by second t) n
 row-errors {format} {A} {n} {weights} w first s second t =

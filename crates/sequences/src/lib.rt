@@ -1,5 +1,6 @@
-// Lists of conversions by cube rotations. What such a list is held to stands in specs/, and that it is so is proved in proofs/ of every program whose
-// calls keep the promises. The function here is one such program: its contract is drawn from that theorem.
+// Lists of conversions by cube rotations. What such a list is held to stands in specs/, and that it is so is proved in
+// proofs/ of every program whose calls keep the promises. The function here is one such program: its contract is drawn
+// from that theorem. Its parameters are those of the theorem, so no struct holds them together.
 #![tactic(auto)]
 
 ghost use Rattle.cubemap.specs.Promises.{ConvertPromise};
@@ -7,7 +8,7 @@ ghost use Rattle.sequences.specs.Twice.{turn_call, TurnedTwice};
 
 use cubemap::{Rotation, Shape};
 
-// What two calls of convert returned.
+// What two calls of convert returned: codes, as the theorem `TurnedTwice` has them.
 #[derive(Clone, Copy)]
 pub struct Codes {
     pub first: u64,
@@ -44,7 +45,8 @@ fn turn(
     )
 }
 
-// Turn a frame twice, from the source into the middle buffer and on into the target. Where the first turn is refused, the second reads the source.
+// Turn a frame twice, from the source into the middle buffer and on into the target. Where the first turn is refused,
+// the second reads the source.
 pub fn turn_twice(
     shape: Shape,
     sampler: u64,
@@ -60,14 +62,11 @@ pub fn turn_twice(
         layout.exit.now source.exit.now middle.new target.new }
 {
     let first_code = turn(shape, sampler, layout, first, source, middle);
-    if first_code == 0 {
-        let later_code = turn(shape, sampler, layout, later, middle, target);
-        return Codes {
-            first: first_code,
-            later: later_code,
-        };
-    }
-    let later_code = turn(shape, sampler, layout, later, source, target);
+    let later_code = if first_code == 0 {
+        turn(shape, sampler, layout, later, middle, target)
+    } else {
+        turn(shape, sampler, layout, later, source, target)
+    };
     Codes {
         first: first_code,
         later: later_code,

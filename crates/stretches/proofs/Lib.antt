@@ -1,4 +1,3 @@
-pub mod LineNumbers
 pub mod Walking
 pub mod Adjusting
 pub mod Parts

@@ -10,11 +10,10 @@ use Rattle.arithmetic.proofs.Sizes.{nat_abs-add, nat_abs_mul, Lifted, lifted}
 use Rattle.arithmetic.proofs.Ring.{var, con, ◌⊕◌, ◌⊗◌, ◌⊝◌, solve}
 use Rattle.cubemap.specs.declared.Format.{Format}
 use Rattle.cubemap.specs.RayToPlace.{position64}
-use Rattle.plain.specs.declared.Walk.{Walk}
 use Rattle.plain.specs.Walks.{walk, walk_at, Forward, Walks, Plain}
 use Rattle.positions.specs.declared.Line.{Line}
-use Rattle.positions.specs.RayLines.{line_at, coordinate_at, LineInRange, Stretch, Positioned}
-use Rattle.stretches.specs.Numbers.{sum_line, Wide, Ahead, Evenly}
+use Rattle.positions.specs.RayLines.{line_at, sum_line, coordinate_at, LineInRange, Stretch, Positioned}
+use Rattle.stretches.specs.Numbers.{Wide, Ahead, Evenly}
 
 in-range-wide : (l : Line) → LineInRange l → Wide l
 in-range-wide l e = record {
@@ -77,7 +76,7 @@ module _ {A : ℕ} {line distance : Line} {coordinates : List ℤ} (s : Stretch 
 -- ---- along evenly spaced columns
 
 -- the numbers of a line from column z on
-abbrev pub walk_of : Line → ℤ → Walk
+abbrev pub walk_of : Line → ℤ → Line
 walk_of l z = walk (line_at l z) (pos 2 *ℤ l.slope)
 
 walk_is : (l : Line) (z : ℤ) (i : ℕ) → walk_at (walk_of l z) i ≡ line_at l (z +ℤ pos (2 * i))
@@ -118,9 +117,9 @@ module _ {coordinates : List ℤ} (h : 0 < length coordinates) (e : Evenly coord
           (sym (walk_along distance i k)) (sum-most s i k);
     }
 
-    pub plain-positioned : {at : ℕ} {table : List ℕ}
-        → Plain A (walk_of (sum_line line distance) first) (walk_of distance first) at (length coordinates) table
-        → Positioned Format.Cmp A line distance coordinates at table
+    pub plain-positioned : {table : List ℕ}
+        → Plain A (walk_of (sum_line line distance) first) (walk_of distance first) (length coordinates) table
+        → Positioned Format.Cmp A line distance coordinates table
     plain-positioned p = record {
       entry = λ i k.
           ap₂ (λ x d. position64 Format.Cmp A x (nat_abs d))

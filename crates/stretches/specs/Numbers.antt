@@ -3,10 +3,6 @@ use Rattle.std.specs.Prelude.{◌≡◌, List, ℕ, ◌*◌, ◌≤◌, ◌<◌,
 use Rattle.positions.specs.declared.Line.{Line}
 use Rattle.positions.specs.RayLines.{line_at, coordinate_at}
 
--- the sum of two lines
-abbrev pub sum_line : Line → Line → Line
-sum_line a b = record { start = a.start +ℤ b.start; slope = a.slope +ℤ b.slope }
-
 -- both numbers of a line are at most twice those within question 13
 pub record Wide (l : Line) : Type 0 where
   pub start_small : nat_abs l.start ≤ 1073741822
@@ -29,3 +25,7 @@ pub record Numbers (l : Line) (coordinates : List ℤ) (table : List ℕ) : Type
 pub record Evenly (coordinates : List ℤ) : Type 0 where
   pub even : (i : ℕ) → i < length coordinates
       → coordinate_at coordinates i ≡ coordinate_at coordinates 0 +ℤ pos (2 * i)
+
+-- every entry is 0
+abbrev pub Zeros : List ℕ → Type 0
+Zeros table = (j : ℕ) → get_or table j 0 ≡ 0

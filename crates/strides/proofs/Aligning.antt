@@ -6,7 +6,7 @@ use mathlib.Core.List.{List, [], ◌∷◌}
 use Prim.Native.Nat.{ℕ, suc, ◌+◌, ◌-◌, ◌≤◌, ◌<◌}
 use native.Mathlib.Omega.{arith}
 use lib.Dec.{T, eqb→eq}
-use lib.IntN.{ℤ, pos, neg_ℤ, nat_abs, ◌+ℤ◌, ◌*ℤ◌}
+use lib.IntN.{pos, neg_ℤ, nat_abs, ◌+ℤ◌, ◌*ℤ◌}
 use borrow.Author.Tests.{eq-eqb}
 use Rattle.arithmetic.specs.Integers.{natural, is_positive}
 use Rattle.arithmetic.proofs.Sizes.{nat_abs-neg, neg_small, positive-is}
@@ -18,7 +18,7 @@ use Rattle.cubemap.proofs.Alignment.{opposite, exchanged_on, mirrored_on}
 use Rattle.strides.specs.declared.Strides.{Strides}
 use Rattle.strides.specs.FaceStrides.{index_by, Contiguous, FaceLeads, strides_in, StrideTable, exchanged, mirrored}
 use Rattle.strides.specs.FaceStrides.{runs_along, runs_ahead, along, ahead, Aligned, RowsAhead}
-use Rattle.strides.specs.FaceStrides.{StridedPlane, sample_on_face, sample_by}
+use Rattle.strides.specs.FaceStrides.{StridedFace, StridedPlane, sample_on_face, sample_by}
 use Rattle.strides.proofs.StrideIndices.{plane-small, not-ahead, exchanged-leads, exchanged-sample}
 
 -- ---- the columns in the other order
@@ -60,6 +60,15 @@ module _ (A : ℕ) (s : Strides) where
       → sample_on_face plane (mirrored A s) m n ≡ sample_on_face plane s (A - suc m) n
   mirrored-sample plane m n h = ap (λ z. sample_at plane (natural z)) (mirrored-index m n h)
 
+-- those of a face
+pub mirrored-face : {A : ℕ} {plane : List ℕ} {s : Strides} → 1 ≤ A → StridedFace A plane s
+    → StridedFace A plane (mirrored A s)
+mirrored-face {A} {s = s} a p = record {
+  size-most = p.size-most;
+  whole = p.whole;
+  leads = mirrored-leads A s a p.size-most p.leads;
+}
+
 -- ---- strides that are aligned with those of a guide
 
 pub along-leads : {A : ℕ} {s : Strides} (g : Strides) → FaceLeads A s → FaceLeads A (along g s)
@@ -80,13 +89,13 @@ ahead_own A s e = cond_both (λ r. r.column ≡ pos 1) (runs_ahead s) s (mirrore
     (λ f. ap neg_ℤ (not-ahead s.column e (λ h. f (subst (λ z. T (is_positive z)) (sym h) tt))))
 
 -- the faces that each of the two leaves as they are, by a table
-abbrev pub keeps_rows : List ℤ → ℕ → Bool
+abbrev pub keeps_rows : List Strides → ℕ → Bool
 keeps_rows guide f = runs_along (strides_in guide f)
 
-abbrev pub keeps_order : List ℤ → ℕ → Bool
+abbrev pub keeps_order : List Strides → ℕ → Bool
 keeps_order guide f = let g : Strides = strides_in guide f in runs_ahead (along g g)
 
-module _ (A : ℕ) (guide table r : List ℤ) (e : Aligned A guide table r) where
+module _ (A : ℕ) (guide table r : List Strides) (e : Aligned A guide table r) where
   pub aligned-plane : {plane : List ℕ} → StridedPlane A plane table → StridedPlane A plane r
   aligned-plane p = record {
     size-least = p.size-least;
@@ -123,7 +132,7 @@ module _ (A : ℕ) (guide table r : List ℤ) (e : Aligned A guide table r) wher
           ∙ row (keeps_rows guide P.face) P.face (A - suc P.column) P.row
 
 -- a table that is aligned with itself
-pub aligned-ahead : (A : ℕ) (table r : List ℤ) → Aligned A table table r → StrideTable A table → RowsAhead r
+pub aligned-ahead : (A : ℕ) (table r : List Strides) → Aligned A table table r → StrideTable A table → RowsAhead r
 aligned-ahead A table r e l f h =
     let g : Strides = strides_in table f in
     ap (λ s. s.column) (e f h) ∙ ahead_own A (along g g) (along-own (l f h))

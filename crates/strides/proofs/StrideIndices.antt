@@ -1,7 +1,6 @@
 -- Base and strides of a face in its slot, turned 0 to 3 times, lead to the index of each of its columns and rows; and
 -- strides with columns and rows exchanged.
 use mathlib.Core.Path.{◌≡◌, refl, sym, ◌∙◌, ap, subst}
-use mathlib.Core.Bool.{true, false, true≢false}
 use mathlib.Core.List.{List, [], ◌∷◌}
 use Prim.Native.Nat.{ℕ, ◌+◌, ◌*◌, ◌-◌, ◌/◌, ◌%◌, ◌^◌, ◌≤◌, ◌<◌}
 use native.Mathlib.Nat.{mul-le-mul}
@@ -9,14 +8,12 @@ use native.Mathlib.Decide.{ℕ_discrete}
 use native.Mathlib.Omega.{arith}
 use lib.ListN.{length}
 use lib.IntN.{ℤ, pos, negsuc, neg_ℤ, nat_abs, ◌+ℤ◌, ◌*ℤ◌}
-use lib.Dec.{T, eqb→eq}
+use lib.Dec.{T}
 use lib.Signed.{non_neg}
 use mir.Syntax.{w64}
 use mir.Val.{to_z, of_z}
 use Rattle.arithmetic.specs.Integers.{natural}
-use borrow.Author.Tests.{eq-eqb}
 use Rattle.arithmetic.proofs.Held.{held}
-use Rattle.arithmetic.proofs.Tests.{passes}
 use Rattle.arithmetic.proofs.Sizes.{pos_inj, nat_abs-neg}
 use Rattle.arithmetic.proofs.Ring.{var, con, ◌⊕◌, ◌⊗◌, ⊖, solve}
 use Rattle.cubemap.specs.declared.Place.{Place}
@@ -33,7 +30,7 @@ use Rattle.frame.specs.LumaPlane.{luma_of}
 use Rattle.frame.proofs.LumaSamples.{luma-length, luma-sample, luma-place}
 use Rattle.strides.specs.declared.Strides.{Strides}
 use Rattle.strides.specs.FaceStrides.{index_by, Contiguous, StridesTo, Askable, FaceLeads, strides_in, LeadsTo}
-use Rattle.strides.specs.FaceStrides.{StrideTable, exchanged, runs_along}
+use Rattle.strides.specs.FaceStrides.{StrideTable, exchanged}
 use Rattle.strides.specs.FaceStrides.{Shallow, StridedFace, StridedPlane, sample_on_face, sample_by}
 
 abbrev pub strides : ℤ → ℤ → ℤ → Strides
@@ -206,13 +203,6 @@ pub not-ahead : (z : ℤ) → nat_abs z ≡ 1 → (z ≡ pos 1 → ⊥) → z �
 not-ahead (pos n) e f = absurd (f (ap pos e))
 not-ahead (negsuc n) e f = let d : n ≡ 0 = omega (arith, e) in ap negsuc d
 
--- where a row runs along a row of the frame, the face is contiguous, and only there
-pub along-contiguous : (s : Strides) → runs_along s ≡ true → Contiguous s
-along-contiguous s e = eqb→eq (nat_abs s.column) 1 (passes e)
-
-pub along-not : (s : Strides) → runs_along s ≡ false → Contiguous s → ⊥
-along-not s e h = true≢false (sym (eq-eqb (nat_abs s.column) 1 h) ∙ e)
-
 -- a column stride that is read as 1, and one that is not
 pub stride-ahead : (s : Strides) → Contiguous s → of_z w64 s.column ≡ 1 → s.column ≡ pos 1
 stride-ahead s l e = sym (held s.column {B = 1} (omega (arith, l)) tt).is ∙ ap (to_z w64) e
@@ -234,7 +224,7 @@ shallow-luma z bytes depth samples = record {
     small v h = omega (arith, depth-levels z.depth depth)
 
 -- each face of a plane with strides
-pub face-of : {A : ℕ} {plane : List ℕ} {table : List ℤ} → StridedPlane A plane table → (f : ℕ) → f < 6
+pub face-of : {A : ℕ} {plane : List ℕ} {table : List Strides} → StridedPlane A plane table → (f : ℕ) → f < 6
     → StridedFace A plane (strides_in table f)
 face-of p f h = record { size-most = p.size-most; whole = p.whole; leads = p.leads f h }
 
@@ -270,7 +260,7 @@ exchanged-sample plane s m n = ap (λ z. sample_at plane (natural z)) (exchanged
 
 -- ---- a table that leads to the indices of a layout
 
-module _ (A : ℕ) (L : List ℕ) (table : List ℤ) (t : LeadsTo A L table) where
+module _ (A : ℕ) (L : List ℕ) (table : List Strides) (t : LeadsTo A L table) where
   -- the strides of a place give its index
   to-index : (f m n : ℕ) → f < 6 → m < A → n < A → natural (index_by (strides_in table f) m n) ≡ index A L (place f m n)
   to-index f m n h p q = ap natural ((t f h).gives m n p q)

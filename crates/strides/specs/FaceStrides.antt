@@ -1,5 +1,6 @@
 -- The index of a place by the base and the two strides of its face: base + m·column + n·row.
-use Rattle.std.specs.Prelude.{◌≡◌, Bool, cond, List, ℕ, ◌+◌, ◌*◌, ◌-◌, ◌≤◌, ◌<◌, T, eqb, ℤ, pos, neg_ℤ, nat_abs, ◌+ℤ◌, ◌*ℤ◌, length, get_or, set}
+use Rattle.std.specs.Prelude.{◌≡◌, Bool, cond, List, ℕ, ◌*◌, ◌-◌, ◌≤◌, ◌<◌, T, eqb, ℤ, pos, neg_ℤ, nat_abs, ◌+ℤ◌}
+use Rattle.std.specs.Prelude.{◌*ℤ◌, length, get_or}
 use Rattle.std.specs.Int.Signed.{non_neg}
 use Rattle.arithmetic.specs.Integers.{natural, is_positive}
 use Rattle.cubemap.specs.declared.Place.{Place}
@@ -37,24 +38,16 @@ pub record Askable (s : Strides) (m n : ℕ) : Type 0 where
 abbrev pub FaceLeads : ℕ → Strides → Type 0
 FaceLeads A s = StridesTo A s (λ m n. natural (index_by s m n))
 
--- the strides of a face in a table of all six, three numbers a face
-abbrev pub strides_in : List ℤ → ℕ → Strides
-strides_in table f = record {
-  base = get_or table (f * 3) (pos 0);
-  column = get_or table (f * 3 + 1) (pos 0);
-  row = get_or table (f * 3 + 2) (pos 0);
-}
-
--- the table with the strides s for the face f
-abbrev pub with_strides : List ℤ → ℕ → Strides → List ℤ
-with_strides table f s = set (set (set table (f * 3) s.base) (f * 3 + 1) s.column) (f * 3 + 2) s.row
+-- the strides of a face in a table of all six
+abbrev pub strides_in : List Strides → ℕ → Strides
+strides_in table f = get_or table f (record { base = pos 0; column = pos 0; row = pos 0 })
 
 -- a table that leads to the index of each place in the layout L
-abbrev pub LeadsTo : ℕ → List ℕ → List ℤ → Type 0
+abbrev pub LeadsTo : ℕ → List ℕ → List Strides → Type 0
 LeadsTo A L table = (f : ℕ) → f < 6 → StridesTo A (strides_in table f) (λ m n. index A L (place f m n))
 
 -- the strides of each face lead to samples of a plane
-abbrev pub StrideTable : ℕ → List ℤ → Type 0
+abbrev pub StrideTable : ℕ → List Strides → Type 0
 StrideTable A table = (f : ℕ) → f < 6 → FaceLeads A (strides_in table f)
 
 -- ---- ahead along the rows of a frame
@@ -88,11 +81,11 @@ abbrev pub aligned : ℕ → Strides → Strides → Strides
 aligned A g s = ahead A (along g g) (along g s)
 
 -- a table with the strides of each face so aligned
-abbrev pub Aligned : ℕ → List ℤ → List ℤ → List ℤ → Type 0
+abbrev pub Aligned : ℕ → List Strides → List Strides → List Strides → Type 0
 Aligned A guide table r = (f : ℕ) → f < 6 → strides_in r f ≡ aligned A (strides_in guide f) (strides_in table f)
 
 -- the rows of each face run ahead along the rows of the frame
-abbrev pub RowsAhead : List ℤ → Type 0
+abbrev pub RowsAhead : List Strides → Type 0
 RowsAhead table = (f : ℕ) → f < 6 → (strides_in table f).column ≡ pos 1
 
 -- ---- the bytes of a plane of face size A, and strides to its samples
@@ -108,7 +101,7 @@ pub record StridedFace (A : ℕ) (plane : List ℕ) (s : Strides) : Type 0 where
   pub leads : FaceLeads A s
 
 -- those of all six
-pub record StridedPlane (A : ℕ) (plane : List ℕ) (table : List ℤ) : Type 0 where
+pub record StridedPlane (A : ℕ) (plane : List ℕ) (table : List Strides) : Type 0 where
   pub size-least : 1 ≤ A
   pub size-most : A ≤ 512
   pub whole : length plane ≡ 2 * plane_samples A
@@ -119,7 +112,7 @@ abbrev pub sample_on_face : List ℕ → Strides → ℕ → ℕ → ℕ
 sample_on_face plane s m n = sample_at plane (natural (index_by s m n))
 
 -- and at a place
-abbrev pub sample_by : List ℕ → List ℤ → Place → ℕ
+abbrev pub sample_by : List ℕ → List Strides → Place → ℕ
 sample_by plane table P = sample_on_face plane (strides_in table P.face) P.column P.row
 
 -- the bytes of row n of a face, from its first column on

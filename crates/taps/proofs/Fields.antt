@@ -6,10 +6,9 @@ use native.Mathlib.Nat.{mul-le-mul_left}
 use native.Mathlib.Omega.{arith}
 use lib.IntN.{ℤ, pos, neg_ℤ, nat_abs, ◌+ℤ◌, ◌-ℤ◌, ◌*ℤ◌}
 use Rattle.arithmetic.proofs.Ring.{Expr, var, con, ◌⊕◌, ◌⊗◌, ◌⊝◌, ⊖, solve}
-use Rattle.taps.specs.declared.Sizes.{Sizes}
-use Rattle.taps.specs.declared.Weights.{Weights}
-use Rattle.taps.specs.TapWeights.{Balanced, weighed, row_sum, grid_sum}
-use Rattle.taps.specs.Fields.{sample_in, Packed12, evens, odds, IsSizes, by_sizes, Pair, field, fields, of_fields}
+use Rattle.taps.specs.declared.sizes.Sizes.{Sizes}
+use Rattle.taps.specs.TapWeights.{TapWeights, four, Balanced, IsSizes, weighed, row_sum, grid_sum}
+use Rattle.taps.specs.Fields.{sample_in, Packed12, evens, odds, by_sizes, Pair, field, fields, of_fields}
 use Rattle.taps.proofs.TapSums.{grid-exchanged}
 
 -- ---- the halves of a number
@@ -31,12 +30,6 @@ module _ (x : ℕ) (p : Packed12 x) where
   odds-are : Halves (odds x) (sample_in x 1) (sample_in x 3)
   odds-are = halves (sample_in x 1) (sample_in x 3) p.second-ok
 
-  pub evens-pair : Pair (evens x)
-  evens-pair = pair evens-are p.first-ok p.third-ok
-
-  pub odds-pair : Pair (odds x)
-  odds-pair = pair odds-are p.second-ok p.fourth-ok
-
   sample-small : (i : ℕ) → sample_in x i < 4096
   sample-small zero = p.first-ok
   sample-small (suc zero) = p.second-ok
@@ -45,7 +38,8 @@ module _ (x : ℕ) (p : Packed12 x) where
 
 -- ---- a field
 
-module _ (z : Sizes) (p : IsSizes z) (a b c d : ℕ) (ha : a < 4096) (hb : b < 4096) (hc : c < 4096) (hd : d < 4096) where
+module _ (z : Sizes) (p : IsSizes z.s0 z.s1 z.s2 z.s3) (a b c d : ℕ) (ha : a < 4096) (hb : b < 4096) (hc : c < 4096)
+    (hd : d < 4096) where
   -- what is taken away is less than 2^28
   taken-most : z.s0 * a + z.s3 * d ≤ 268369920
   taken-most = omega (
@@ -86,7 +80,8 @@ times-halves s x = ap (λ m. s * m) halves ∙ omega arith
     halves : x ≡ x % 4294967296 + 4294967296 * (x / 4294967296)
     halves = omega arith
 
-module _ (z : Sizes) (p : IsSizes z) (a b c d : ℕ) (ha : Pair a) (hb : Pair b) (hc : Pair c) (hd : Pair d) where
+module _ (z : Sizes) (p : IsSizes z.s0 z.s1 z.s2 z.s3) (a b c d : ℕ) (ha : Pair a) (hb : Pair b) (hc : Pair c)
+    (hd : Pair d) where
   low-taken : z.s0 * (a % 4294967296) + z.s3 * (d % 4294967296) ≤ 268369920
   low-taken = taken-most z p (a % 4294967296) (b % 4294967296) (c % 4294967296) (d % 4294967296)
       ha.low_small hb.low_small hc.low_small hd.low_small
@@ -105,9 +100,6 @@ module _ (z : Sizes) (p : IsSizes z) (a b c d : ℕ) (ha : Pair a) (hb : Pair b)
 
   pub added-fits : 1152921504875282432 + z.s1 * b + z.s2 * c < 2 ^ 64
   added-fits = omega (arith, low-added, high-added, times-halves z.s1 b, times-halves z.s2 c)
-
-  pub taken-below : z.s0 * a + z.s3 * d ≤ 2 ^ 60
-  taken-below = omega (arith, low-taken, high_taken, times-halves z.s0 a, times-halves z.s3 d)
 
   -- neither borrows
   pub fields-are : (1152921504875282432 + z.s1 * b + z.s2 * c) - (z.s0 * a + z.s3 * d) ≡ fields z a b c d
@@ -133,7 +125,7 @@ fields-cong z e p q r t = e ∙ (λ i. fields z (p i) (q i) (r i) (t i))
 -- ---- sums of sums
 
 -- four fields by weights that add up to 2^19: what was added to them comes to 2^47
-module _ (z : Sizes) (p : IsSizes z) {a b c d : ℕ} (A B C D : ℤ) where
+module _ (z : Sizes) (p : IsSizes z.s0 z.s1 z.s2 z.s3) {a b c d : ℕ} (A B C D : ℤ) where
   less-added : pos a ≡ A +ℤ pos (2 ^ 28) → pos b ≡ B +ℤ pos (2 ^ 28) → pos c ≡ C +ℤ pos (2 ^ 28) → pos d ≡ D +ℤ pos (2 ^ 28)
       → pos (z.s1 * b + z.s2 * c) -ℤ pos (z.s0 * a + z.s3 * d) -ℤ pos (2 ^ 47) ≡ by_sizes z A B C D
   less-added ea eb ec ed =
@@ -152,28 +144,24 @@ module _ (z : Sizes) (p : IsSizes z) {a b c d : ℕ} (A B C D : ℤ) where
 
 -- ---- weights and their sizes
 
-abbrev SizesOf : Weights → Sizes → Type 0
+abbrev SizesOf : TapWeights → Sizes → Type 0
 SizesOf w z = (z.s0 ≡ nat_abs w.w0) × (z.s1 ≡ nat_abs w.w1) × (z.s2 ≡ nat_abs w.w2) × (z.s3 ≡ nat_abs w.w3)
 
 -- the weights of these sizes
-abbrev signed : Sizes → Weights
-signed z = record { w0 = neg_ℤ (pos z.s0); w1 = pos z.s1; w2 = pos z.s2; w3 = neg_ℤ (pos z.s3) }
+abbrev signed : Sizes → TapWeights
+signed z = four (neg_ℤ (pos z.s0)) (pos z.s1) (pos z.s2) (neg_ℤ (pos z.s3))
 
-module _ {w : Weights} {z : Sizes} (p : Balanced w) (q : SizesOf w z) where
-  signed_is : signed z ≡ w
-  signed_is = λ k. record {
-    w0 = (ap (λ n. neg_ℤ (pos n)) q.0 ∙ sym p.first) k;
-    w1 = (ap pos q.1 ∙ sym p.second) k;
-    w2 = (ap pos q.2 ∙ sym p.third) k;
-    w3 = (ap (λ n. neg_ℤ (pos n)) q.3 ∙ sym p.fourth) k;
-  }
-
-  pub is-sizes : IsSizes z
-  is-sizes = record { adds = omega (arith, p.adds, q.0, q.1, q.2, q.3); outer-small = omega (arith, p.outer-small, q.0, q.3) }
+signed_is : {w : TapWeights} (z : Sizes) → Balanced w → SizesOf w z → signed z ≡ w
+signed_is z p q = λ k. four
+    ((ap (λ n. neg_ℤ (pos n)) q.0 ∙ sym p.first) k)
+    ((ap pos q.1 ∙ sym p.second) k)
+    ((ap pos q.2 ∙ sym p.third) k)
+    ((ap (λ n. neg_ℤ (pos n)) q.3 ∙ sym p.fourth) k)
 
 -- ---- sixteen samples, in rows a, b, c, d
 
-module _ (z y : Sizes) (p : IsSizes z) (q : IsSizes y) (a b c d : ℕ) (ha : Packed12 a) (hb : Packed12 b) (hc : Packed12 c) (hd : Packed12 d) where
+module _ (z y : Sizes) (p : IsSizes z.s0 z.s1 z.s2 z.s3) (q : IsSizes y.s0 y.s1 y.s2 y.s3) (a b c d : ℕ)
+    (ha : Packed12 a) (hb : Packed12 b) (hc : Packed12 c) (hd : Packed12 d) where
   -- the field of column i, and its sum
   abbrev column : ℕ → ℕ
   column i = field z (sample_in a i) (sample_in b i) (sample_in c i) (sample_in d i)
@@ -217,10 +205,11 @@ module _ (z y : Sizes) (p : IsSizes z) (q : IsSizes y) (a b c d : ℕ) (ha : Pac
       (ap pos h.low ∙ column-is 0) (ap pos k.low ∙ column-is 1) (ap pos h.high ∙ column-is 2) (ap pos k.high ∙ column-is 3)
       ∙ grid-exchanged (signed z) (signed y) rows
 
-pub sixteen-are : {w u : Weights} {z y : Sizes} {a b c d e o : ℕ} → Balanced w → Balanced u → SizesOf w z → SizesOf u y
+pub sixteen-are : {w u : TapWeights} (z y : Sizes) {a b c d e o : ℕ} → Balanced w → Balanced u → SizesOf w z
+    → SizesOf u y
     → Packed12 a → Packed12 b → Packed12 c → Packed12 d
     → e ≡ fields z (evens a) (evens b) (evens c) (evens d) → o ≡ fields z (odds a) (odds b) (odds c) (odds d)
     → of_fields y e o ≡ weighed w (row_sum u (sample_in a)) (row_sum u (sample_in b)) (row_sum u (sample_in c)) (row_sum u (sample_in d))
-sixteen-are {w} {u} {z} {y} {a} {b} {c} {d} p q zs ys ha hb hc hd f g =
-    by_rows z y (is-sizes p zs) (is-sizes q ys) a b c d ha hb hc hd f g
-    ∙ (λ k. grid_sum (signed_is p zs k) (signed_is q ys k) (rows z y (is-sizes p zs) (is-sizes q ys) a b c d ha hb hc hd))
+sixteen-are z y {a} {b} {c} {d} p q zs ys ha hb hc hd f g =
+    by_rows z y z.is_sizes y.is_sizes a b c d ha hb hc hd f g
+    ∙ (λ k. grid_sum (signed_is z p zs k) (signed_is y q ys k) (rows z y z.is_sizes y.is_sizes a b c d ha hb hc hd))

@@ -9,8 +9,7 @@ use Rattle.arithmetic.proofs.Tests.{All3, and3, and_left, and_right}
 use Rattle.arithmetic.proofs.Searches.{all-at}
 use Rattle.arithmetic.proofs.Sizes.{equalℤ→eq}
 use Rattle.cubemap.specs.Samplers.{tap_weight}
-use Rattle.taps.specs.declared.Weights.{Weights}
-use Rattle.taps.specs.TapWeights.{weights_of, Balanced}
+use Rattle.taps.specs.TapWeights.{TapWeights, weights_of, Balanced}
 
 -- the test
 abbrev outer_ok : ℤ → Bool
@@ -19,16 +18,16 @@ outer_ok z = equalℤ z (neg_ℤ (pos (nat_abs z)))
 abbrev inner_ok : ℤ → Bool
 inner_ok z = equalℤ z (pos (nat_abs z))
 
-abbrev signs_ok : Weights → Bool
+abbrev signs_ok : TapWeights → Bool
 signs_ok w = (outer_ok w.w0 && inner_ok w.w1) && (inner_ok w.w2 && outer_ok w.w3)
 
-abbrev adds_ok : Weights → Bool
+abbrev adds_ok : TapWeights → Bool
 adds_ok w = eqb (nat_abs w.w1 + nat_abs w.w2) (nat_abs w.w0 + nat_abs w.w3 + 524288)
 
-abbrev small_ok : Weights → Bool
+abbrev small_ok : TapWeights → Bool
 small_ok w = leb (nat_abs w.w0 + nat_abs w.w3) 65536
 
-abbrev balanced_ok : Weights → Bool
+abbrev balanced_ok : TapWeights → Bool
 balanced_ok w = signs_ok w && adds_ok w && small_ok w
 
 all-phases : T (all_below (λ k. balanced_ok (weights_of (pos k))) 64)
@@ -36,7 +35,7 @@ unfolding all_below tap_weight
 all-phases = tt
 
 -- what passes it
-tested : (w : Weights) → T (balanced_ok w) → Balanced w
+tested : (w : TapWeights) → T (balanced_ok w) → Balanced w
 tested w t = record {
   first = equalℤ→eq w.w0 (neg_ℤ (pos (nat_abs w.w0))) (and_left (outer_ok w.w0) (inner_ok w.w1) low);
   second = equalℤ→eq w.w1 (pos (nat_abs w.w1)) (and_right (outer_ok w.w0) (inner_ok w.w1) low);

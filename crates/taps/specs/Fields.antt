@@ -1,6 +1,6 @@
 -- Four samples in one number, and two sums of four samples in another.
-use Rattle.std.specs.Prelude.{◌≡◌, ℕ, zero, suc, ◌+◌, ◌*◌, ◌-◌, ◌/◌, ◌%◌, ◌^◌, ◌≤◌, ◌<◌, ℤ, pos, neg_ℤ, ◌+ℤ◌, ◌-ℤ◌, ◌*ℤ◌}
-use Rattle.taps.specs.declared.Sizes.{Sizes}
+use Rattle.std.specs.Prelude.{◌≡◌, ℕ, zero, suc, ◌+◌, ◌*◌, ◌-◌, ◌/◌, ◌%◌, ◌^◌, ◌<◌, ℤ, pos, neg_ℤ, ◌+ℤ◌, ◌-ℤ◌, ◌*ℤ◌}
+use Rattle.taps.specs.declared.sizes.Sizes.{Sizes}
 
 -- ---- four samples in one number, 16 bits each
 
@@ -32,11 +32,6 @@ abbrev pub odds : ℕ → ℕ
 odds x = sample_in x 1 + 4294967296 * sample_in x 3
 
 -- ---- weights by their sizes
-
--- sizes of balanced weights
-pub record IsSizes (z : Sizes) : Type 0 where
-  pub adds : z.s1 + z.s2 ≡ z.s0 + z.s3 + 524288
-  pub outer-small : z.s0 + z.s3 ≤ 65536
 
 -- four numbers by the weights of these sizes
 abbrev pub by_sizes : Sizes → ℤ → ℤ → ℤ → ℤ → ℤ

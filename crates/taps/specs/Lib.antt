@@ -1,2 +1,3 @@
 pub mod TapWeights
 pub mod Fields
+pub mod InOrder

@@ -1,5 +1,5 @@
-// The frame view: a frame as one thing, its bytes with shape and layout beside them. It is thin over `sample_at`, which
-// has them apart; callers that hold no view use `read_sample`. Samples are read from luma.
+// The frame view: a frame as one thing, its bytes with shape and layout beside them. Callers that hold no view use
+// `read_sample`. Samples are read from luma.
 #![tactic(auto)]
 
 ghost use Rattle.std.specs.Prelude.{◌≡◌};
@@ -16,32 +16,16 @@ pub struct FrameView<'a> {
     pub layout: Layout,
 }
 
-// The sample at a place, of a frame whose parts are apart.
-fn sample_at(bytes: &[u8], shape: Shape, layout: Layout, place: Place) -> u64
-    requires { Readable (frame_of shape layout bytes.now) × IsPlace shape.size place }
-    ensures { result ≡ frame_sample (frame_of shape layout bytes.now) place }
-{
-    let luma = frame::luma(bytes, shape.size);
-    frame::sample(luma, strides::index(shape.size, layout, place) as usize)
-}
-
-// The view of a frame.
-pub fn view<'a>(bytes: &'a [u8], shape: Shape, layout: Layout) -> FrameView<'a>
-    ensures { (result.bytes ≡ bytes.entry) × (result.shape ≡ shape) × (result.layout ≡ layout) }
-{
-    FrameView {
-        bytes,
-        shape,
-        layout,
+impl<'a> FrameView<'a> {
+    // The sample at a place of the frame that is viewed.
+    pub fn sample(self, place: Place) -> u64
+        requires { Readable (shown self) × IsPlace self.shape.size place }
+        ensures { result ≡ frame_sample (shown self.entry) place }
+    {
+        let size = self.shape.size;
+        let luma = frame::luma(self.bytes, size);
+        frame::sample(luma, strides::index(size, self.layout, place) as usize)
     }
-}
-
-// The sample at a place of the frame that is viewed.
-pub fn sample<'a>(frame: FrameView<'a>, place: Place) -> u64
-    requires { Readable (shown frame) × IsPlace frame.shape.size place }
-    ensures { result ≡ frame_sample (shown frame.entry) place }
-{
-    sample_at(frame.bytes, frame.shape, frame.layout, place)
 }
 
 // The sample at a place, through a view of the frame.
@@ -49,5 +33,10 @@ pub fn read_sample(bytes: &[u8], shape: Shape, layout: Layout, place: Place) -> 
     requires { Readable (frame_of shape layout bytes.now) × IsPlace shape.size place }
     ensures { result ≡ frame_sample (frame_of shape layout bytes.now) place }
 {
-    sample(view(bytes, shape, layout), place)
+    let frame = FrameView {
+        bytes,
+        shape,
+        layout,
+    };
+    frame.sample(place)
 }

@@ -1,3 +1,4 @@
 mod Passing
 mod WeightTables
+mod TableSums
 pub mod Weighing

@@ -1,20 +1,17 @@
 -- The table of a row's weights: what its entries are at most, their sum, and that the opposite row has the same.
-use mathlib.Core.Path.{◌≡◌, sym, ◌∙◌, ap, subst}
+use mathlib.Core.Path.{◌≡◌, sym, ◌∙◌, ap}
 use mathlib.Core.List.{List}
-use Prim.Native.Nat.{ℕ, suc, ◌+◌, ◌-◌, ◌≤◌, ◌<◌}
+use Prim.Native.Nat.{ℕ, suc, ◌+◌, ◌-◌, ◌<◌}
 use native.Mathlib.Omega.{arith}
 use lib.ListN.{get_or}
 use Rattle.arithmetic.specs.Sums.{sum_below, both_terms}
 use Rattle.arithmetic.proofs.Sums.{sum-cong, both-cong}
 use Rattle.cubemap.specs.declared.Format.{Format}
 use Rattle.cubemap.specs.Score.{weight}
-use Rattle.cubemap.proofs.Weights.{weight-most, weight-symmetric, mirror-row}
-use Rattle.weights.specs.RowWeights.{Weighed, AtMost}
+use Rattle.cubemap.proofs.Weights.{weight-symmetric, mirror-row}
+use Rattle.weights.specs.RowWeights.{Weighed}
 
 module _ {format : Format} {A n : ℕ} {weights : List ℕ} (w : Weighed format A n weights) where
-  pub entry-most : 1 ≤ A → AtMost A 65536 weights
-  entry-most a m h = subst (λ x. x ≤ 65536) (sym (w.entry m h)) (weight-most format A m n a)
-
   pub row-weights : sum_below (λ m. get_or weights m 0) A ≡ sum_below (λ m. weight format A m n) A
   row-weights = sum-cong A (λ m. get_or weights m 0) (λ m. weight format A m n) w.entry
 

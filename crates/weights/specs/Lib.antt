@@ -1,2 +1,3 @@
+pub mod TestNumbers
 pub mod WeightTests
 pub mod RowWeights

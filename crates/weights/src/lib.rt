@@ -1,204 +1,74 @@
 // The weights of a row: for each column the largest whole number under equation 109.
 #![tactic(auto)]
 
-ghost use Rattle.std.specs.Prelude.{◌≡◌, ◌+◌, ◌*◌, ◌/◌, ◌^◌, ◌≤◌, ◌<◌, nat_abs, length};
+ghost use Rattle.std.specs.Prelude.{◌≡◌, ◌*◌, ◌≤◌, ◌<◌, nat_abs, get_or};
+ghost use Rattle.arithmetic.specs.Sums.{sum_below};
 ghost use Rattle.cubemap.specs.PlaceToRay.{from_centre};
-ghost use Rattle.cubemap.proofs.Weights.{length_squared};
-ghost use Rattle.weights.specs.WeightTests.{left_side, passing, TestOf, Bounds, IsMost};
-ghost use Rattle.weights.specs.RowWeights.{WeightAt, Weighed};
+ghost use Rattle.weights.specs.RowWeights.{Weighed, AtMost};
 
+use crate::offsets::Offsets;
 use cubemap::Format;
 
-// ---- the weight of a place
-
-// The test of a weight, in numbers that fit 64 bits: W passes where W²·(high·2^30 + low) ≤ 2^30·limit.
-// (2^30 is 1,073,741,824.)
-#[derive(Clone, Copy)]
-struct WeightTest {
-    high: u64,
-    low: u64,
-    limit: u64,
-}
-
-// The third power of K = A² + p² + q², which is at most 3·512² = 786,432.
-fn cube(k: u64) -> u64
-    requires { k ≤ 786432 }
-    ensures { (result ≡ k ^ 3) × (result ≤ 486388759756013568) }
-{
-    k * k * k
-}
+mod offsets;
+mod weight_test;
 
 // The size of p, of a column, or of q, of a row.
 fn offset(size: u64, m: u64) -> u64
     requires { (size ≤ 512) × (m < size) }
     ensures { (result ≡ nat_abs (from_centre size m)) × (result < size) }
 {
-    arithmetic::magnitude(geometry::from_centre(size, m))
+    geometry::from_centre(size, m).unsigned_abs()
 }
 
-// The test of a place where K is k, with the limit 4·A^6.
-fn test_of(limit: u64, k: u64) -> WeightTest
-    requires { k ≤ 786432 }
-    ensures { TestOf limit k result }
-{
-    let cubed = cube(k);
-    WeightTest {
-        high: cubed / 1073741824,
-        low: cubed % 1073741824,
-        limit: limit,
-    }
+// A row's weights on faces of a size, and the guesses from which the next row's are found. The tables have the greatest
+// length, since there is no heap; nothing is said of the entries from A on.
+#[derive(Drop)]
+pub struct RowWeights {
+    pub size: u64,
+    pub weights: [u64; 512],
+    guesses: [u64; 256],
+    pub ghost sized: { (1 ≤ size) × (size ≤ 512) },
+    pub ghost small: { AtMost size 65536 weights },
 }
 
-// W²·K³, divided by 2^30 and rounded up.
-fn left_side(test: WeightTest, w: u64) -> u64
-    requires { Bounds test × (w ≤ 65538) }
-    ensures { result ≡ (left_side test w + 1073741823) / 1073741824 }
-{
-    let square = w * w;
-    square * test.high + (square * test.low + 1073741823) / 1073741824
-}
-
-// Does W pass? Both sides are divided by 2^30: the left one, rounded up, is at most the limit exactly where W passes.
-fn passes(test: WeightTest, w: u64) -> bool
-    requires { Bounds test × (w ≤ 65538) }
-    ensures { result ≡ passing test w }
-{
-    left_side(test, w) <= test.limit
-}
-
-// The largest W that passes, by bisection: `low` passes, `high` does not.
-fn most(test: WeightTest) -> u64
-    requires { Bounds test }
-    ensures { IsMost test result }
-{
-    let mut low: u64 = 0;
-    let mut high: u64 = 65537;
-    while low + 1 < high {
-        let middle = low + (high - low) / 2;
-        if passes(test, middle) {
-            low = middle;
-        } else {
-            high = middle;
+impl RowWeights {
+    // A table in which no row stands yet.
+    pub fn new(size: u64) -> Self
+        requires { (1 ≤ size) × (size ≤ 512) }
+        ensures { result.size ≡ size }
+    {
+        RowWeights {
+            size,
+            weights: [0; 512],
+            guesses: [0; 256],
         }
     }
-    low
-}
 
-// The largest W that passes, whatever the guess; at once where the guess is it.
-fn most_near(test: WeightTest, guess: u64) -> u64
-    requires { Bounds test × (guess ≤ 65536) }
-    ensures { IsMost test result }
-{
-    if passes(test, guess) {
-        if !passes(test, guess + 1) {
-            return guess;
+    // Finds the weights of a row. The guesses are those of the row before, and then of this one. Opposite columns weigh
+    // the same.
+    pub fn weigh(&mut self, format: Format, row: u64)
+        requires { row < self.old.size }
+        ensures { Weighed format self.old.size row self.new.weights × (self.new.size ≡ self.old.size) }
+    {
+        let size = self.size;
+        let q = offset(size, row);
+        let q_before = offset(size, row.saturating_sub(1));
+        for column in 0..(size + 1) / 2 {
+            let opposite = size - 1 - column;
+            let p = opposite - column;
+            let place = Offsets { size, p, q };
+            let guess = place.guess_from(q_before, self.guesses[column as usize]);
+            let weight = place.weight(format, guess / 65536);
+            self.guesses[column as usize] = place.corrected(guess, weight);
+            self.weights[column as usize] = weight;
+            self.weights[opposite as usize] = weight;
         }
     }
-    most(test)
-}
 
-// K = A² + p² + q², by the sizes of p and q.
-fn length_squared(size: u64, p: u64, q: u64) -> u64
-    requires { (size ≤ 512) × (p < size) × (q < size) }
-    ensures { (result ≡ length_squared size p q) × (size * size ≤ result) × (result < 3 * (size * size)) × (result ≤ 786432) }
-{
-    size * size + p * p + q * q
-}
-
-// The test of a place, by the sizes of p and q.
-fn test_at(size: u64, p: u64, q: u64) -> WeightTest
-    requires { (size ≤ 512) × (p < size) × (q < size) }
-    ensures { TestOf (4 * size ^ 6) (length_squared size p q) result }
-{
-    test_of(4 * cube(size * size), length_squared(size, p, q))
-}
-
-// The weight by the sizes of p and q, whatever the guess. Both formats have the same, so the format is not asked yet.
-fn weight_of(format: Format, size: u64, p: u64, q: u64, guess: u64) -> u64
-    requires { (1 ≤ size) × (size ≤ 512) × (p < size) × (q < size) × (guess ≤ 65536) }
-    ensures { WeightAt format size p q result × (result ≤ 65536) }
-{
-    most_near(test_at(size, p, q), guess)
-}
-
-// ---- guesses, as 65,536 times a weight with its fraction. Only the time to find a weight depends on them.
-
-// A number cut to 2^32, which no guess exceeds.
-fn cut(x: u64) -> u64
-    ensures { result ≤ 4294967296 }
-{
-    if x <= 4294967296 { x } else { 4294967296 }
-}
-
-// A guess where K is k, by the one where it is `other`: a weight goes with K^(−3/2), and for near numbers
-// (other / k)^(3/2) is very nearly (5·other − k) / (5·k − other).
-fn guess_from(fine: u64, other: u64, k: u64) -> u64
-    requires { (k < 5 * other) × (other < 5 * k) × (k ≤ 786432) × (other ≤ 786432) }
-    ensures { result ≤ 4294967296 }
-{
-    cut(cut(fine) * (5 * other - k) / (5 * k - other))
-}
-
-// x − y, or 0 where that is more.
-fn less(x: u64, y: u64) -> u64
-    ensures { result ≤ x }
-{
-    if y <= x { x - y } else { 0 }
-}
-
-// A guess from the weight W itself: how far the limit is beyond W²·K³, as a part of the way to (W + 1)²·K³.
-// (2^46 is 70,368,744,177,664.)
-fn guess_at(test: WeightTest, w: u64) -> u64
-    requires { Bounds test × (w ≤ 65536) }
-{
-    let beyond = less(test.limit, left_side(test, w));
-    65536 * w + beyond % 70368744177664 * 65536 / ((2 * w + 1) * test.high + 1)
-}
-
-// The guess, where it led to the weight; else one from the weight.
-fn corrected(size: u64, p: u64, q: u64, guess: u64, weight: u64) -> u64
-    requires { (1 ≤ size) × (size ≤ 512) × (p < size) × (q < size) × (weight ≤ 65536) }
-{
-    if guess / 65536 == weight {
-        return guess;
-    }
-    guess_at(test_at(size, p, q), weight)
-}
-
-// The row before, where there is one.
-fn row_before(row: u64) -> u64
-    ensures { result ≤ row }
-{
-    if row == 0 { 0 } else { row - 1 }
-}
-
-// The weights of a row. The guesses are those of the row before, and then of this one. Opposite columns weigh the same.
-pub fn weigh_row(
-    format: Format,
-    size: u64,
-    row: u64,
-    weights: &mut [u64; 512],
-    guesses: &mut [u64; 256],
-)
-    requires le_size { (1 ≤ size) × (size ≤ 512) × (row < size) }
-    requires weights_len { (length weights.old ≡ 512) × (length guesses.old ≡ 256) }
-    ensures { Weighed format size row weights.new × (length weights.new ≡ 512)
-        × (length guesses.new ≡ 256) }
-{
-    let q = offset(size, row);
-    let q_before = offset(size, row_before(row));
-    let mut column: u64 = 0;
-    let mut opposite: u64 = size;
-    while column < opposite {
-        opposite -= 1;
-        let p = opposite - column;
-        let k = length_squared(size, p, q);
-        let other = length_squared(size, p, q_before);
-        let guess = guess_from(guesses[column as usize], other, k);
-        let weight = weight_of(format, size, p, q, guess / 65536);
-        guesses[column as usize] = corrected(size, p, q, guess, weight);
-        weights[column as usize] = weight;
-        weights[opposite as usize] = weight;
-        column += 1;
+    // The sum of the row's weights.
+    pub fn sum(&self) -> u64
+        ensures { (result ≡ sum_below (λ m. get_or self.now.weights m 0) self.now.size) × (result ≤ 33554432) }
+    {
+        self.weights[..self.size as usize].iter().sum::<u64>()
     }
 }

@@ -1,14 +1,17 @@
 // The five calls: numbers and lent buffers go in, a code and bytes come out. Each is thin over the function that does
-// the work. The crate welchodrys_c exports them to C.
+// the work. The crate welchodrys_c exports them to C: so each takes its numbers one by one, and gives a code, as C
+// does.
 #![tactic(auto)]
 
 ghost use Rattle.cubemap.specs.PlaceToRay.{ray};
 ghost use Rattle.cubemap.specs.Frames.{shape_of};
 ghost use Rattle.cubemap.specs.Checks.{convert_settings, score_settings};
-ghost use Rattle.cubemap.specs.Promises.{convert_call, ConvertPromise, score_call, ScorePromise, FoldPromise, EqualPromise, LookUpPromise};
+ghost use Rattle.cubemap.specs.Promises.{convert_call, ConvertPromise, score_call, ScorePromise};
+ghost use Rattle.cubemap.specs.Promises.{FoldPromise, EqualPromise, LookUpPromise};
 ghost use Rattle.cubemap.specs.Rotations.{rotation};
 
-use cubemap::{Compared, Converted, Folded, LookedUp, Ray, Rotation, Scored, Shape};
+use conversion::Settings;
+use cubemap::{Ray, Rotation, Shape};
 
 // Convert a frame through a turn: the target's bytes.
 pub fn welchodrys_convert(
@@ -33,31 +36,22 @@ pub fn welchodrys_convert(
         source.now target.old result
         source_layout.exit.now target_layout.exit.now source.exit.now target.new) }
 {
-    let shape = Shape {
-        size: source_size,
-        depth: depth,
-        format: source_format,
-    };
-    let t = Rotation {
-        e0: e0,
-        e1: e1,
-        e2: e2,
-        e3: e3,
-    };
-    let converted = conversion::convert(
-        shape,
+    let settings = Settings {
+        source: Shape {
+            size: source_size,
+            depth,
+            format: source_format,
+        },
         target_size,
         target_format,
         sampler,
         source_layout,
         target_layout,
-        t,
-        source,
-        target,
-    );
-    match converted {
-        Converted::Accepted => 0,
-        Converted::Refused(r) => checks::refusal_code(r),
+        rotation: Rotation { e0, e1, e2, e3 },
+    };
+    match conversion::convert(settings, source, target) {
+        Ok(()) => 0,
+        Err(refused) => u64::from(refused),
     }
 }
 
@@ -78,18 +72,14 @@ pub fn welchodrys_score(
         first_layout.exit.now second_layout.exit.now first.exit.now second.exit.now answer.new) }
 {
     let shape = Shape {
-        size: size,
-        depth: depth,
-        format: format,
+        size,
+        depth,
+        format,
     };
-    let scored = scoring::score(shape, first_layout, second_layout, first, second);
-    match scored {
-        Scored::Sums { errors, weights } => {
-            answers::put_sums(answer, errors, weights);
-            0
-        }
-        Scored::Refused(r) => checks::refusal_code(r),
-    }
+    answers::answer(
+        scoring::score(shape, first_layout, second_layout, first, second),
+        answer,
+    )
 }
 
 // Fold a first and a later turn: four numbers.
@@ -119,14 +109,7 @@ pub fn welchodrys_fold(
         e2: later2,
         e3: later3,
     };
-    let folded = fold::fold(first, later);
-    match folded {
-        Folded::Composed(t) => {
-            answers::put_rotation(answer, t);
-            0
-        }
-        Folded::Refused(r) => checks::refusal_code(r),
-    }
+    answers::answer(fold::fold(first, later), answer)
 }
 
 // Are two turns equal? One number, 1 or 0.
@@ -156,27 +139,12 @@ pub fn welchodrys_equal(
         e2: second2,
         e3: second3,
     };
-    let compared = fold::equal(first, second);
-    match compared {
-        Compared::Equal(equal) => {
-            answers::put_equal(answer, equal);
-            0
-        }
-        Compared::Refused(r) => checks::refusal_code(r),
-    }
+    answers::answer(fold::equal(first, second), answer)
 }
 
 // Look up a ray: the face, then column and row in 64ths of a sample.
 pub fn welchodrys_look_up(size: u64, format: u64, x: i64, y: i64, z: i64, answer: &mut [u8]) -> u64
     ensures { LookUpPromise size format (ray x y z) answer.old result answer.new }
 {
-    let v = Ray { x: x, y: y, z: z };
-    let looked_up = look_up::look_up(size, format, v);
-    match looked_up {
-        LookedUp::At(p) => {
-            answers::put_located(answer, p);
-            0
-        }
-        LookedUp::Refused(r) => checks::refusal_code(r),
-    }
+    answers::answer(look_up::look_up(size, format, Ray { x, y, z }), answer)
 }

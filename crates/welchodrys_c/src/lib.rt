@@ -1,11 +1,12 @@
-// What C calls: each call of the crate welchodrys under its own name, with the same promise. A slice comes from C as a
-// pointer and a length.
+// What C calls: each call of the crate welchodrys under its own name, with the same promise, since Rattle crates call
+// that one. A slice comes from C as a pointer and a length.
 #![tactic(auto)]
 
 ghost use Rattle.cubemap.specs.PlaceToRay.{ray};
 ghost use Rattle.cubemap.specs.Frames.{shape_of};
 ghost use Rattle.cubemap.specs.Checks.{convert_settings, score_settings};
-ghost use Rattle.cubemap.specs.Promises.{convert_call, ConvertPromise, score_call, ScorePromise, FoldPromise, EqualPromise, LookUpPromise};
+ghost use Rattle.cubemap.specs.Promises.{convert_call, ConvertPromise, score_call, ScorePromise};
+ghost use Rattle.cubemap.specs.Promises.{FoldPromise, EqualPromise, LookUpPromise};
 ghost use Rattle.cubemap.specs.Rotations.{rotation};
 
 // Convert a frame through a turn: the target's bytes.

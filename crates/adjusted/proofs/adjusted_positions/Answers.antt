@@ -1,78 +1,40 @@
 -- `adjusted_positions` meets its contract: wherever the stretch is cut, both parts together are the whole.
-use mathlib.Core.Path.{refl, ◌∙◌, subst}
-use Prim.Native.Nat.{ℕ}
-use native.Mathlib.Nat.{le_refl}
-use native.Mathlib.Omega.{arith}
-use lib.ListN.{length}
-use Rattle.adjusted.specs.Adjusted.{AdjustedStretch, Adjusted}
-use Rattle.adjusted.proofs.Told.{adjusted-none, first_part, second-part, told-both}
-use Rattle.adjusted.proofs.adjusted_positions.Goals.{After-cut_of-cut}
+use Rattle.adjusted.proofs.Halves.{Halves, left-sums, right-sums, told-both}
+use Rattle.adjusted.proofs.adjusted_positions.Goals.{After-split_at_mut-left}
 use Rattle.adjusted.proofs.adjusted_positions.Goals as goal
 
-pub returns-then-end-eq0 : goal.returns-then-end-eq0
-returns-then-end-eq0 c = (
-  λ t. subst
-      (λ n. Adjusted c.args.size c.args.table.now c.args.distances.now 0 n c.args.table.now)
-      (omega (arith, c.if-end-eq0.true))
-      (adjusted-none c.args.size c.args.table.now c.args.distances.now 0 c.args.table.now),
-  refl,
-)
+halves : (c : After-split_at_mut-left)
+    → Halves c.args.table.now c.args.divisors.distances.now c.split_at_mut-left.result.0.now
+    c.split_at_mut-left.result.1.now
+    c.part-first.result.distances.now c.part-second.result.distances.now c.cut_of-cut.result
+halves c = let s = c.split_at_mut-left.ensures in record {
+  inside = c.cut_of-cut.ensures;
+  whole = c.requires.2;
+  left-length = s.front_len;
+  right-length = s.back_len;
+  at = s.by_index;
+  first-is = c.part-first.ensures.1;
+  second-is = c.part-second.ensures.1;
+}
 
-pub returns-then-negative : goal.returns-then-negative
-returns-then-negative c =
-    let first = c.below in
-    let second = c.above in (
-      told-both first.result second.result first.ensures.0 first.ensures.1 second.ensures.0
-          second.ensures.1,
-      second.ensures.2 ∙ first.ensures.2,
-    )
+pub tell_each-requires-then-below : goal.tell_each-requires-then-below
+tell_each-requires-then-below c =
+    right-sums (halves (goal.at.tell_each-requires-then-below c).After-split_at_mut-left) c.requires.3
 
-pub returns-else-negative : goal.returns-else-negative
-returns-else-negative c =
-    let first = c.above-else-negative in
-    let second = c.below-else-negative in (
-      told-both first.result second.result first.ensures.0 first.ensures.1 second.ensures.0
-          second.ensures.1,
-      second.ensures.2 ∙ first.ensures.2,
-    )
+pub tell_each-requires-else-below : goal.tell_each-requires-else-below
+tell_each-requires-else-below c =
+    left-sums (halves (goal.at.tell_each-requires-else-below c).After-split_at_mut-left) c.requires.3
 
--- the stretch, and its part before the cut
-module _ (c : After-cut_of-cut) where
-  abbrev end : ℕ
-  end = length c.args.table.now
+pub tell_each-requires-else-below-2 : goal.tell_each-requires-else-below-2
+tell_each-requires-else-below-2 c =
+    right-sums (halves (goal.at.tell_each-requires-else-below-2 c).After-split_at_mut-left) c.requires.3
 
-  abbrev Part : ℕ → Type 0
-  Part = AdjustedStretch c.args.size c.args.shift c.args.table.now c.args.distances.now
-      c.args.reciprocals.now 0
+pub returns-then-below : goal.returns-then-below
+returns-then-below c =
+    told-both (halves (goal.at.returns-then-below c).After-split_at_mut-left) c.of-b.ensures
+    c.tell_each.ensures c.tell_each-then-below.ensures
 
-  whole : Part end
-  whole = record {
-    size-most = c.requires.size_bound.0;
-    shift-most = c.requires.size_bound.1;
-    in_order = omega arith;
-    in-sums = le_refl end;
-    in-distances = omega (arith, c.requires.size_bound.3);
-    in-reciprocals = omega (arith, c.requires.size_bound.4);
-    has-distances = c.requires.distances.0;
-    has-sums = c.requires.distances.1;
-    has-reciprocals = c.requires.distances.2;
-  }
-
-  first : Part c.cut_of-cut.result
-  first = first_part whole c.cut_of-cut.result (omega arith) c.cut_of-cut.ensures
-
-pub below-requires : goal.below-requires
-below-requires c = first (goal.at.below-requires c).After-cut_of-cut
-
-pub above-requires : goal.above-requires
-above-requires c =
-    second-part (whole (goal.at.above-requires c).After-cut_of-cut) c.cut_of-cut.result (omega arith) c.cut_of-cut.ensures
-    c.below.ensures.1 c.below.ensures.2
-
-pub above-requires-else-negative : goal.above-requires-else-negative
-above-requires-else-negative c = first (goal.at.above-requires-else-negative c).After-cut_of-cut
-
-pub below-requires-else-negative : goal.below-requires-else-negative
-below-requires-else-negative c =
-    second-part (whole (goal.at.below-requires-else-negative c).After-cut_of-cut) c.cut_of-cut.result (omega arith) c.cut_of-cut.ensures
-    c.above-else-negative.ensures.1 c.above-else-negative.ensures.2
+pub returns-else-below : goal.returns-else-below
+returns-else-below c =
+    told-both (halves (goal.at.returns-else-below c).After-split_at_mut-left) c.of-b.ensures
+    c.tell_each-else-below.ensures c.tell_each-else-below-2.ensures

@@ -1,22 +1,16 @@
--- `faces_ok` meets its contract: each face before this one is in one slot.
-use mathlib.Core.Path.{sym, ◌∙◌}
-use native.Mathlib.Omega.{arith}
-use borrow.Author.Tests.{eq-eqb, ne_eqb}
-use Rattle.arithmetic.proofs.Searches.{asked-none, asked-next, all-fails, all_pass}
+-- `faces_ok` meets its contract: it asks each of the six faces.
+use mathlib.Core.Path.{◌≡◌, refl}
+use Prim.Native.Nat.{ℕ}
+use borrow.Author.Tests.{tests}
+use borrow.Author.Rules.{rules}
+use Rattle.std.specs.Prelude.{◌≢◌, ◌==◌, count_by}
+use Rattle.std.proofs.lemmas.Iterator.{cases_from_all, YieldsList-from_range}
+use Rattle.checks.proofs.LayoutTests.{all-numbers}
 use Rattle.checks.proofs.faces_ok.Goals as goal
 
-pub loop-face-preserved : goal.loop-face-preserved
-loop-face-preserved c =
-    let h = eq-eqb _ _ (sym c.face_count.ensures ∙ c.if-face_count-ne1.false) in
-    asked-next c.loop-face.invariant (omega arith) h
-
-pub returns-then-face_count-ne1 : goal.returns-then-face_count-ne1
-returns-then-face_count-ne1 c =
-    let h = ne_eqb _ _ (λ e. c.if-face_count-ne1.true (c.face_count.ensures ∙ e)) in
-    sym (all-fails _ 6 c.loop-face.face (omega arith) h)
-
 pub returns : goal.returns
-returns c = sym (all_pass c.loop-face.invariant (omega arith))
-
-pub loop-face-init : goal.loop-face-init
-loop-face-init c = asked-none _ _ _
+returns c =
+    let count = λ (f : ℕ). count_by {X = ℕ} (λ held. held == f) c.args.faces.now in
+    all-numbers 6 c.all.result
+    (cases_from_all _ _ _ (λ f. count f ≡ 1) (λ f. count f ≢ 1) c.all.ensures.ran (YieldsList-from_range 0 6 6 refl refl)
+    (λ x q k. search (rules, tests)) (λ x q k. search (rules, tests)))

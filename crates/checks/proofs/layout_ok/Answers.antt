@@ -2,6 +2,7 @@
 use mathlib.Core.Path.{sym, ◌∙◌, ap, ap₂}
 use mathlib.Core.Bool.{◌&&◌}
 use borrow.Author.Tests.{eq-eqb, ne_eqb}
+use Rattle.checks.proofs.LayoutTests.{faces-tested, turns-tested}
 use Rattle.cubemap.proofs.Layouts.{faces_once, turns_few, layout-tests}
 use Rattle.checks.proofs.layout_ok.Goals as goal
 
@@ -13,5 +14,7 @@ returns-then-layout-ne12 c =
 pub returns : goal.returns
 returns c =
     let L = c.args.layout.now in
-    ap₂ ◌&&◌ c.faces_ok.ensures c.turns_ok.ensures
-    ∙ sym (layout-tests L ∙ ap (λ b. b && faces_once L && turns_few L) (eq-eqb _ _ c.if-layout-ne12.false))
+    let n = c.if-layout-ne12.false in
+    ap₂ ◌&&◌ (faces-tested L n (rw c.split_at.ensures.front at c.faces_ok.ensures))
+    (turns-tested L n (rw c.split_at.ensures.back at c.turns_ok.ensures))
+    ∙ sym (layout-tests L ∙ ap (λ b. b && faces_once L && turns_few L) (eq-eqb _ _ n))

@@ -1,8 +1,8 @@
 -- `part_ok` meets its contract: the bits so far are below 2^D exactly where each sample so far is.
 use mathlib.Core.Path.{◌≡◌}
 use mathlib.Core.List.{List}
-use mathlib.Core.Bool.{Bool, true}
-use Prim.Native.Nat.{ℕ, ◌+◌, ◌-◌, ◌^◌, ◌≤◌}
+use mathlib.Core.Bool.{Bool}
+use Prim.Native.Nat.{ℕ, ◌+◌, ◌^◌}
 use lib.Dec.{ltb}
 use Rattle.arithmetic.specs.Searches.{all_below}
 use Rattle.cubemap.specs.declared.Shape.{Shape}
@@ -13,14 +13,5 @@ use Rattle.checks.proofs.part_ok.Given as goal
 abbrev pub sample_from_ok : Shape → List ℕ → ℕ → ℕ → Bool
 sample_from_ok shape bytes from i = sample_ok shape bytes (from + i)
 
--- the bits of the first i samples of the part
-pub record Gathered (shape : Shape) (bytes : List ℕ) (from count bits i : ℕ) : Type 0 where
-  pub bounded : i ≤ count
-  pub sixteen : ltb bits (2 ^ 16) ≡ true
-  pub agrees : ltb bits (2 ^ shape.depth) ≡ all_below (sample_from_ok shape bytes from) i
-
 abbrev pub invariant-loop-i : goal.invariant-loop-i
-invariant-loop-i l = Gathered l.shape l.bytes l.from l.count l.bits l.i
-
-abbrev pub decreases-loop-i : goal.decreases-loop-i
-decreases-loop-i l = l.count - l.i
+invariant-loop-i l = ltb l.bits (2 ^ l.shape.depth) ≡ all_below (sample_from_ok l.shape l.bytes l.from) l.i

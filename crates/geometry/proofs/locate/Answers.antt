@@ -72,21 +72,21 @@ module _ (c : After-table4-f) where
 pub overflow_cast-d : goal.overflow_cast-d
 overflow_cast-d c = cast_ok (distance-held (goal.at.overflow_cast-d c).After-table4-f) tt tt
 
-pub position-column-requires : goal.position-column-requires
-position-column-requires c =
-    let t = (goal.at.position-column-requires c).After-table4-f in
-    asks t _ _ t.table4-f.ensures.0 (ratios (goal.at.position-column-requires c).After-face_of-face).across-ok
+pub position-requires : goal.position-requires
+position-requires c =
+    let t = (goal.at.position-requires c).After-table4-f in
+    asks t _ _ t.table4-f.ensures.0 (ratios (goal.at.position-requires c).After-face_of-face).across-ok
 
-pub position-row-requires : goal.position-row-requires
-position-row-requires c =
-    let t = (goal.at.position-row-requires c).After-table4-f in
-    asks t _ _ t.table4-f.ensures.1 (ratios (goal.at.position-row-requires c).After-face_of-face).down-ok
+pub position-requires-2 : goal.position-requires-2
+position-requires-2 c =
+    let t = (goal.at.position-requires-2 c).After-table4-f in
+    asks t _ _ t.table4-f.ensures.1 (ratios (goal.at.position-requires-2 c).After-face_of-face).down-ok
 
 pub returns : goal.returns
 returns c =
     let t = (goal.at.returns c).After-table4-f in
     let a = t.args in
     (λ i. located (face (goal.at.returns c).After-face_of-face)
-    (position-is t _ _ t.table4-f.ensures.0 (ratios (goal.at.returns c).After-face_of-face).across-ok c.position-column.result (search rules) c.position-column.ensures i)
-    (position-is t _ _ t.table4-f.ensures.1 (ratios (goal.at.returns c).After-face_of-face).down-ok c.position-row.result (search rules) c.position-row.ensures i))
+    (position-is t _ _ t.table4-f.ensures.0 (ratios (goal.at.returns c).After-face_of-face).across-ok c.position.result (search rules) c.position.ensures i)
+    (position-is t _ _ t.table4-f.ensures.1 (ratios (goal.at.returns c).After-face_of-face).down-ok c.position-2.result (search rules) c.position-2.ensures i))
     ∙ sym (locate-is a.format a.size a.v (face (goal.at.returns c).After-face_of-face) (sym t.face_of-face.ensures))

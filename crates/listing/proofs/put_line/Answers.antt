@@ -3,8 +3,8 @@ use mathlib.Core.Path.{◌≡◌, sym, ◌∙◌, ap}
 use mathlib.Core.List.{◌++◌}
 use Prim.Native.Nat.{ℕ}
 use lib.IntN.{pos}
+use Rattle.std.specs.Prelude.{Result as Returned, Ok, Err}
 use Rattle.cubemap.specs.declared.Located.{Located}
-use Rattle.cubemap.specs.declared.LookedUp.{LookedUp}
 use Rattle.cubemap.specs.declared.Refusal.{Refusal}
 use Rattle.cubemap.specs.Listing.{decimal, spaced, line}
 use Rattle.cubemap.specs.Outcomes.{look_up_values, refusal, looked_up_means}
@@ -13,11 +13,11 @@ use Rattle.listing.proofs.Texts.{put_then, put_is, room-is, room-first, room-the
 use Rattle.listing.proofs.put_line.Goals as goal
 
 -- the line, by the case that the match found
-located-line : (k : ℕ) {found : LookedUp} {p : Located} → found ≡ LookedUp.At p
+located-line : (k : ℕ) {found : Returned Located Refusal} {p : Located} → found ≡ Ok p
     → line k (looked_up_means found) ≡ decimal (pos k) ++ spaced (look_up_values p)
 located-line k {p = p} e = ap (λ r. line k (looked_up_means r)) e ∙ line-accepted k (look_up_values p)
 
-refused-line : (k : ℕ) {found : LookedUp} {q : Refusal} → found ≡ LookedUp.Refused q
+refused-line : (k : ℕ) {found : Returned Located Refusal} {q : Refusal} → found ≡ Err q
     → line k (looked_up_means found) ≡ decimal (pos k) ++ refused_text (refusal q).number
 refused-line k {q = q} e = ap (λ r. line k (looked_up_means r)) e ∙ line_refused k q
 
@@ -28,22 +28,22 @@ put_decimal-number-requires c =
 
 pub put_located-requires : goal.put_located-requires
 put_located-requires c =
-    room-then (decimal (pos c.args.k)) (spaced (look_up_values c.in-At.p)) c.put_decimal-number.ensures
-    (room-is _ _ (located-line c.args.k c.in-At.is) c.requires)
+    room-then (decimal (pos c.args.k)) (spaced (look_up_values c.in-Ok.p)) c.put_decimal-number.ensures
+    (room-is _ _ (located-line c.args.k c.in-Ok.is) c.requires)
 
 pub put_refused-requires : goal.put_refused-requires
 put_refused-requires c =
-    room-then (decimal (pos c.args.k)) (refused_text (refusal c.in-Refused.refused).number) c.put_decimal-number.ensures
-    (room-is _ _ (refused-line c.args.k c.in-Refused.is) c.requires)
+    room-then (decimal (pos c.args.k)) (refused_text (refusal c.in-Err.refused).number) c.put_decimal-number.ensures
+    (room-is _ _ (refused-line c.args.k c.in-Err.is) c.requires)
 
-pub returns-in-At : goal.returns-in-At
-returns-in-At c =
-    put_is (sym (located-line c.args.k c.in-At.is))
-    (put_then (decimal (pos c.args.k)) (spaced (look_up_values c.in-At.p)) c.put_decimal-number.ensures
+pub returns-in-Ok : goal.returns-in-Ok
+returns-in-Ok c =
+    put_is (sym (located-line c.args.k c.in-Ok.is))
+    (put_then (decimal (pos c.args.k)) (spaced (look_up_values c.in-Ok.p)) c.put_decimal-number.ensures
     c.put_located.ensures)
 
-pub returns-in-Refused : goal.returns-in-Refused
-returns-in-Refused c =
-    put_is (sym (refused-line c.args.k c.in-Refused.is))
-    (put_then (decimal (pos c.args.k)) (refused_text (refusal c.in-Refused.refused).number) c.put_decimal-number.ensures
+pub returns-in-Err : goal.returns-in-Err
+returns-in-Err c =
+    put_is (sym (refused-line c.args.k c.in-Err.is))
+    (put_then (decimal (pos c.args.k)) (refused_text (refusal c.in-Err.refused).number) c.put_decimal-number.ensures
     c.put_refused.ensures)

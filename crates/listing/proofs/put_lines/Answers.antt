@@ -10,8 +10,7 @@ use Rattle.cubemap.specs.Listing.{line, record_result}
 use Rattle.cubemap.specs.Outcomes.{Result}
 use Rattle.cubemap.proofs.Records.{passed}
 use Rattle.listing.proofs.Texts.{put_is, room-is}
-use Rattle.listing.proofs.Progress.{none_yet, line-room, goes_on, not_beyond, one_more, all_lines}
-use borrow.Author.Rules.{rules}
+use Rattle.listing.proofs.Progress.{line-room, one_more, all_lines}
 use Rattle.listing.proofs.put_lines.Goals as goal
 
 -- the bytes from the record's first on
@@ -27,32 +26,12 @@ length-is : (input : List ℕ) (from : ℕ) {n : ℕ} → n ≡ passed (take (le
     → n ≡ passed (drop from input)
 length-is input from e = e ∙ ap passed (bytes input from)
 
-pub loop-from-init : goal.loop-from-init
-loop-from-init c = none_yet c.args.text.now c.args.at c.args.input.now
-
 pub put_line-end-requires : goal.put_line-end-requires
 put_line-end-requires c =
     let input = c.args.input.now in
     let l = c.loop-from in
     room-is _ _ (sym (line-is input l.from l.k c.result_of.ensures))
     (line-room input l.invariant c.loop-from-test.true c.requires)
-
-pub overflow_add-from : goal.overflow_add-from
-overflow_add-from c =
-    let input = c.args.input.now in
-    let e = length-is input _ c.length_of-from.ensures in
-    let within = not_beyond input c.loop-from.invariant c.loop-from-test.true e in
-    search rules
-
-pub overflow_add-k : goal.overflow_add-k
-overflow_add-k c = let p = c.loop-from.invariant.counted in let h = c.loop-from-test.true in search rules
-
-pub loop-from-smaller : goal.loop-from-smaller
-loop-from-smaller c =
-    let input = c.args.input.now in
-    let p = c.loop-from.invariant in
-    let e = length-is input _ c.length_of-from.ensures in
-    omega (arith, not_beyond input p c.loop-from-test.true e, goes_on input p c.loop-from-test.true e)
 
 pub loop-from-preserved : goal.loop-from-preserved
 loop-from-preserved c =

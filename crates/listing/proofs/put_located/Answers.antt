@@ -31,19 +31,19 @@ put_spaced-column-requires c =
     let p = c.args.p in
     room-first _ _ (face p) (behind_face p) (room-is _ _ (located-text p) c.requires)
 
-pub put_spaced_signed-row-requires : goal.put_spaced_signed-row-requires
-put_spaced_signed-row-requires c =
+pub put_spaced-row-requires : goal.put_spaced-row-requires
+put_spaced-row-requires c =
     let p = c.args.p in
     let line = room-is _ _ (located-text p) c.requires in
     let room = room-then (face p) (behind_face p) c.put_spaced-column.ensures line in
     room-read behind_space p.column (search rules) _ _ (room-first _ _ (column p) (behind_column p) room)
 
-pub put_spaced_signed-end-requires : goal.put_spaced_signed-end-requires
-put_spaced_signed-end-requires c =
+pub put_spaced-end-requires : goal.put_spaced-end-requires
+put_spaced-end-requires c =
     let p = c.args.p in
     let line = room-is _ _ (located-text p) c.requires in
     let room = room-then (face p) (behind_face p) c.put_spaced-column.ensures line in
-    let put-column = put-read behind_space p.column (search rules) c.put_spaced_signed-row.ensures in
+    let put-column = put-read behind_space p.column (search rules) c.put_spaced-row.ensures in
     room-read behind_space p.row (search rules) _ _
     (room-first _ _ (row p) line_end (room-then (column p) (behind_column p) put-column room))
 
@@ -52,15 +52,15 @@ put_byte-requires c =
     let p = c.args.p in
     let line = room-is _ _ (located-text p) c.requires in
     let room = room-then (face p) (behind_face p) c.put_spaced-column.ensures line in
-    let put-column = put-read behind_space p.column (search rules) c.put_spaced_signed-row.ensures in
-    let put-row = put-read behind_space p.row (search rules) c.put_spaced_signed-end.ensures in
+    let put-column = put-read behind_space p.column (search rules) c.put_spaced-row.ensures in
+    let put-row = put-read behind_space p.row (search rules) c.put_spaced-end.ensures in
     room-then (row p) line_end put-row (room-then (column p) (behind_column p) put-column room)
 
 pub returns : goal.returns
 returns c =
     let p = c.args.p in
-    let put-column = put-read behind_space p.column (search rules) c.put_spaced_signed-row.ensures in
-    let put-row = put-read behind_space p.row (search rules) c.put_spaced_signed-end.ensures in
+    let put-column = put-read behind_space p.column (search rules) c.put_spaced-row.ensures in
+    let put-row = put-read behind_space p.row (search rules) c.put_spaced-end.ensures in
     put_is (sym (located-text p))
     (put_then (face p) (behind_face p) c.put_spaced-column.ensures
     (put_then (column p) (behind_column p) put-column (put_then (row p) line_end put-row c.put_byte.ensures)))

@@ -3,7 +3,6 @@ use mathlib.Core.Path.{◌≡◌, sym, ◌∙◌, ap}
 use mathlib.Core.List.{List, ◌++◌}
 use Prim.Native.Nat.{ℕ}
 use lib.IntN.{pos}
-use Rattle.cubemap.specs.Outcomes.{refusal}
 use Rattle.cubemap.specs.Listing.{text}
 use Rattle.cubemap.proofs.Listings.{behind_space, line_end, refused_text, refused-text}
 use Rattle.listing.proofs.Texts.{put_then, put_is, room-is, room-first, room-then}
@@ -18,11 +17,6 @@ behind_word n = behind_space (pos n) ++ line_end
 
 parts : {m n : ℕ} → n ≡ m → refused_text m ≡ word ++ behind_word n
 parts {m} e = refused-text m ∙ ap (λ n. word ++ behind_word n) (sym e)
-
-pub put_bytes-number-requires : goal.put_bytes-number-requires
-put_bytes-number-requires c =
-    let n = (refusal c.args.refused).number in
-    room-first _ _ word (behind_word n) (room-is _ _ (refused-text n) c.requires)
 
 pub put_spaced-end-requires : goal.put_spaced-end-requires
 put_spaced-end-requires c =

@@ -5,7 +5,7 @@ use lib.Dec.{lit≤}
 use lib.IntN.{pos, ◌+ℤ◌, ◌*ℤ◌}
 use mir.Syntax.{w64}
 use mir.Val.{to_z, of_z}
-use Rattle.arithmetic.proofs.Held.{Held, held, held-nat, held-literal, mul_ok, mul, add_ok, add, read_small}
+use Rattle.arithmetic.proofs.Held.{Held, held, held-nat, held-literal, mul, add, read_small}
 use Rattle.plain.proofs.numerator.Goals.{Start}
 use Rattle.plain.proofs.numerator.Goals as goal
 
@@ -37,12 +37,3 @@ module _ (c : Start) where
 
 pub returns : goal.returns
 returns c = ((whole c).is, le_trans (read_small (whole c)) (lit≤ tt))
-
-pub overflow_mul-result : goal.overflow_mul-result
-overflow_mul-result c = mul_ok (held-literal 64 tt) (held-size c) tt
-
-pub overflow_mul-result-2 : goal.overflow_mul-result-2
-overflow_mul-result-2 c = mul_ok (factor c) (held-s c) tt
-
-pub overflow_add-result : goal.overflow_add-result
-overflow_add-result c = add_ok (product c) (held-d c) tt

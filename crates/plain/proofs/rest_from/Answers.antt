@@ -9,10 +9,10 @@ use lib.IntN.{ℤ, pos, neg_ℤ, nat_abs, ◌+ℤ◌, ◌-ℤ◌, ◌*ℤ◌}
 use mir.Syntax.{w64}
 use mir.Val.{to_z, of_z}
 use Rattle.arithmetic.specs.Integers.{natural}
-use Rattle.arithmetic.proofs.Held.{Held, held, read_small}
+use Rattle.arithmetic.proofs.Held.{Held, held}
 use Rattle.arithmetic.proofs.Ring.{Expr, var, con, ◌⊕◌, ◌⊗◌, ◌⊝◌, ⊖, solve}
 use Rattle.arithmetic.proofs.Sizes.{pos-sub}
-use Rattle.plain.specs.declared.Walk.{Walk}
+use Rattle.positions.specs.declared.Line.{Line}
 use Rattle.plain.specs.Walks.{rest_at}
 use Rattle.plain.proofs.Moves.{opposite-moves, rises, rises-small, falls, falls-small}
 use Rattle.plain.proofs.rest_from.Goals.{After-numerator-slope, After-numerator-start, Start}
@@ -34,7 +34,7 @@ numerator-held A s d {n} p q e =
 abbrev rest : Expr → Expr
 rest i = con (pos 4611686018427387903) ⊝ (var 0 ⊗ (var 1 ⊕ i ⊗ var 2) ⊕ (var 3 ⊕ i ⊗ var 4))
 
-module _ (A : ℕ) (s d : Walk) where
+module _ (A : ℕ) (s d : Line) where
   first_rest : {r : ℕ} → pos (nat_abs s.start) ≡ s.start → pos (nat_abs d.start) ≡ d.start
       → r ≤ 281474976710656 → r ≡ natural (numerator_of A s.start d.start)
       → pos (4611686018427387903 - r) ≡ rest_at A s d 0
@@ -55,10 +55,10 @@ module _ (c : Start) where
   abbrev A : ℕ
   A = c.args.size
 
-  abbrev s : Walk
+  abbrev s : Line
   s = c.args.s
 
-  abbrev d : Walk
+  abbrev d : Line
   d = c.args.d
 
   s-small : nat_abs s.start ≤ 2147483644
@@ -91,26 +91,9 @@ returns c =
           (rises-small (start n) c.rise.ensures)
           (rises (start n) c.rise.ensures);
       next = λ i.
-          ap₂ (λ u v. rest_at (A o) (s o) (d o) i +ℤ (pos u -ℤ pos v)) (falls (slope m) c.fall.ensures)
-          (rises (slope m) c.rise-2.ensures)
+          ap₂ (λ u v. rest_at (A o) (s o) (d o) i +ℤ (pos u -ℤ pos v)) (falls (slope m) tt c.rise-2.ensures)
+          (rises (slope m) c.rise-3.ensures)
           ∙ ap (λ z. rest_at (A o) (s o) (d o) i +ℤ z) (opposite-moves (numerator_of (A o) (s o).slope (d o).slope))
           ∙ rest-next (A o) (s o) (d o) i;
-      few = (falls-small (slope m) c.fall.ensures, rises-small (slope m) c.rise-2.ensures);
+      few = (falls-small (slope m) tt c.rise-2.ensures, rises-small (slope m) c.rise-3.ensures);
     }
-
-pub numerator-start-requires : goal.numerator-start-requires
-numerator-start-requires c =
-    let o = (goal.at.numerator-start-requires c).Start in (
-      o.requires.0,
-      read_small (held (s o).start (s-small o) tt),
-      read_small (held (d o).start (d_small o) tt),
-    )
-
-pub rise-requires : goal.rise-requires
-rise-requires c = tt
-
-pub overflow_sub-result : goal.overflow_sub-result
-overflow_sub-result c = omega (arith, rises-small (start (goal.at.overflow_sub-result c).After-numerator-start) c.rise.ensures)
-
-pub rise-requires-2 : goal.rise-requires-2
-rise-requires-2 c = tt

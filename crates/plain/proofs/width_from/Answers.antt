@@ -2,16 +2,14 @@
 use mathlib.Core.Path.{◌≡◌, ◌∙◌, ap, ap₂}
 use mathlib.Core.List.{[], ◌∷◌}
 use Prim.Native.Nat.{ℕ, ◌+◌, ◌*◌}
-use native.Mathlib.Nat.{le_trans}
 use native.Mathlib.Omega.{arith}
-use lib.Dec.{lit≤}
 use lib.IntN.{pos, nat_abs, ◌+ℤ◌, ◌-ℤ◌, ◌*ℤ◌}
 use mir.Syntax.{w64}
 use mir.Val.{of_z}
 use Rattle.arithmetic.specs.Integers.{natural}
-use Rattle.arithmetic.proofs.Held.{Held, held, read_small}
+use Rattle.arithmetic.proofs.Held.{Held, held}
 use Rattle.arithmetic.proofs.Ring.{Expr, var, con, ◌⊕◌, ◌⊗◌, solve}
-use Rattle.plain.specs.declared.Walk.{Walk}
+use Rattle.positions.specs.declared.Line.{Line}
 use Rattle.plain.specs.Walks.{width_at}
 use Rattle.plain.proofs.Moves.{natural-is, twice-moves, rises, rises-small, falls, falls-small}
 use Rattle.plain.proofs.width_from.Goals.{Start}
@@ -21,18 +19,18 @@ use Rattle.plain.proofs.width_from.Goals as goal
 abbrev width : Expr → Expr
 width i = con (pos 1099511627776) ⊕ con (pos 2) ⊗ (var 0 ⊕ i ⊗ var 1)
 
-first_width : (d : Walk) {r : ℕ} → pos (nat_abs d.start) ≡ d.start → r ≡ natural d.start
+first_width : (d : Line) {r : ℕ} → pos (nat_abs d.start) ≡ d.start → r ≡ natural d.start
     → pos (1099511627776 + 2 * r) ≡ width_at d 0
 first_width d e is =
     ap (λ r. pos (1099511627776 + 2 * r)) (is ∙ natural-is d.start e) ∙ ap (λ z. pos 1099511627776 +ℤ pos 2 *ℤ z) e
     ∙ solve (d.start ∷ d.slope ∷ []) (con (pos 1099511627776) ⊕ con (pos 2) ⊗ var 0) (width (con (pos 0))) tt
 
-width-next : (d : Walk) (i : ℕ) → width_at d i +ℤ pos 2 *ℤ d.slope ≡ width_at d (i + 1)
+width-next : (d : Line) (i : ℕ) → width_at d i +ℤ pos 2 *ℤ d.slope ≡ width_at d (i + 1)
 width-next d i =
     solve (d.start ∷ d.slope ∷ pos i ∷ []) (width (var 2) ⊕ con (pos 2) ⊗ var 1) (width (var 2 ⊕ con (pos 1))) tt
 
 module _ (c : Start) where
-  abbrev d : Walk
+  abbrev d : Line
   d = c.args.d
 
   start : Held (of_z w64 d.start) d.start 1073741822
@@ -48,33 +46,10 @@ returns c =
       first = first_width (d o) o.requires.start-ahead (rises (start o) c.rise.ensures);
       next = λ i.
           ap₂ (λ u v. width_at (d o) i +ℤ (pos (2 * u) -ℤ pos (2 * v)))
-          (rises (slope o) c.rise-2.ensures) (falls (slope o) c.fall.ensures)
+          (rises (slope o) c.rise-2.ensures) (falls (slope o) tt c.rise-3.ensures)
           ∙ ap (λ z. width_at (d o) i +ℤ z) (twice-moves (d o).slope) ∙ width-next (d o) i;
       few = (
         omega (arith, rises-small (slope o) c.rise-2.ensures),
-        omega (arith, falls-small (slope o) c.fall.ensures),
+        omega (arith, falls-small (slope o) tt c.rise-3.ensures),
       );
     }
-
-pub rise-requires : goal.rise-requires
-rise-requires c = tt
-
-pub overflow_mul-result : goal.overflow_mul-result
-overflow_mul-result c = record { fits = omega (arith, rises-small (start (goal.at.overflow_mul-result c).Start) c.rise.ensures) }
-
-pub overflow_add-result : goal.overflow_add-result
-overflow_add-result c = record { fits = omega (arith, rises-small (start (goal.at.overflow_add-result c).Start) c.rise.ensures) }
-
-pub rise-requires-2 : goal.rise-requires-2
-rise-requires-2 c = tt
-
-pub overflow_mul-result-2 : goal.overflow_mul-result-2
-overflow_mul-result-2 c = record { fits = omega (arith, rises-small (slope (goal.at.overflow_mul-result-2 c).Start) c.rise-2.ensures) }
-
-pub fall-requires : goal.fall-requires
-fall-requires c = le_trans (read_small (slope (goal.at.fall-requires c).Start)) (lit≤ tt)
-
-pub overflow_mul-result-3 : goal.overflow_mul-result-3
-overflow_mul-result-3 c =
-    let o = (goal.at.overflow_mul-result-3 c).Start in
-    record { fits = omega (arith, falls-small (slope o) c.fall.ensures) }

@@ -6,16 +6,13 @@ use native.Mathlib.Nat.{zero-mul, mul-le-mul_left}
 use native.Mathlib.Omega.{arith}
 use lib.ListN.{length}
 use borrow.Rule.Slice.PartMut.{put_mid}
-use Rattle.arithmetic.proofs.ListParts.{part_length}
 use Rattle.cubemap.specs.Frames.{framed, plane_samples}
 use Rattle.cubemap.proofs.Framed.{framed-cong}
 use Rattle.frame.specs.Placing.{placed}
 use Rattle.frame.proofs.Placing.{Placed, kept, none-placed, placed-more, put-placed, placed-all}
 use Rattle.strides.proofs.StrideIndices.{plane-small}
 use Rattle.positions.specs.RayLines.{coordinate_at}
-use Rattle.cubic.specs.Sources.{Source}
-use Rattle.resampling.specs.declared.Row.{Row}
-use Rattle.resampling.specs.RowOfRays.{ray_at, RowReady, value_on}
+use Rattle.resampling.specs.RowOfRays.{ray_at, value_on}
 use Rattle.planes.specs.TargetPlane.{value_at_index}
 use Rattle.planes.proofs.RunRays as rays
 use Rattle.planes.proofs.convert_plane.Goals as goal
@@ -40,13 +37,13 @@ module _ (A run : ℕ) (h : run < 6 * A) where
 
 pub returns : goal.returns
 returns c =
-    let A = c.args.c.target.cube.size in
-    let f = value_at_index c.args.c c.args.source.now c.args.strides.now in
-    let i = c.loop-run.invariant.0 in
+    let A = c.args.c.target.size in
+    let f = value_at_index c.args.c in
+    let i = c.loop-run.invariant in
     let end : 6 * A ≤ c.loop-run.run = omega (arith, c.loop-run-test.false) in
     i.holds
     ∙ ap (placed 2 c.args.target.now 0 f) (omega (arith, i.bounded, mul-le-mul_left A end))
-    ∙ placed-all 2 c.args.target.now f (plane_samples A) c.requires.target_len
+    ∙ placed-all 2 c.args.target.now f (plane_samples A) c.requires.1
 
 counted : (k n : ℕ) → n ≡ k + n - k
 counted k n = omega arith
@@ -54,78 +51,28 @@ counted k n = omega arith
 pub loop-run-preserved : goal.loop-run-preserved
 loop-run-preserved c =
     let a = c.args in
-    let A = a.c.target.cube.size in
+    let A = a.c.target.size in
+    let ready = c.requires.0 in
     let run = c.loop-run.run in
     let target = c.loop-run.target in
     let first = 2 * (run * A) in
     let last = first + 2 * A in
-    let f = value_at_index a.c a.source.now a.strides.now in (
-      next A run c.loop-run-test.true c.loop-run.invariant.0 c.requires.target_len
-          (ap (put_mid first (last - first) target)
-          (c.convert_along.ensures.0
-          ∙ framed-cong 2 _ (λ j. f (run * A + j)) (length a.coordinates.now) (λ j m.
-          ap (λ (row : Row). value_on row.reading a.source.now a.strides.now
-          (ray_at row.rays (coordinate_at a.coordinates.now j)))
-          c.run_row-row.ensures
-          ∙ ap (value_on a.c.source a.source.now a.strides.now)
-          (sym (rays.run-ray a.c a.coordinates.now c.requires.source.1 run c.loop-run-test.true j
-          (omega (arith, m, c.requires.source.1.columns)))))
-          ∙ ap (framed 2 _) (c.requires.source.1.columns ∙ counted (run * A) A))
-          ∙ put-placed 2 target (run * A) (run * A + A) first last _ refl (omega arith) (omega arith)
-          ∙ ap (placed 2 target (run * A) _) (sym (counted (run * A) A))),
-      c.convert_along.ensures.1,
-    )
+    let f = value_at_index a.c in
+    let e = c.run_row.ensures in
+    next A run c.loop-run-test.true c.loop-run.invariant c.requires.1
+    (ap (put_mid first (last - first) target)
+    (c.convert_along.ensures
+    ∙ (λ i. framed 2 (λ j. value_on (e.0 i) (ray_at (e.2 i) (coordinate_at (e.1 i).now j))) (length (e.1 i).now))
+    ∙ framed-cong 2 _ (λ j. f (run * A + j)) (length a.coordinates.now) (λ j m.
+    ap (value_on a.c.source)
+    (sym (rays.run-ray a.c a.coordinates.now ready run c.loop-run-test.true j (omega (arith, m, ready.columns)))))
+    ∙ ap (framed 2 _) (ready.columns ∙ counted (run * A) A))
+    ∙ put-placed 2 target (run * A) (run * A + A) first last _ refl (omega arith) (omega arith)
+    ∙ ap (placed 2 target (run * A) _) (sym (counted (run * A) A)))
 
 pub loop-run-init : goal.loop-run-init
-loop-run-init c = (
-  subst (Placed 2 0 _ _ _ _) (sym (zero-mul c.args.c.target.cube.size))
-      (none-placed 2 _ 0 _ _),
-  record { guesses-whole = refl; distances-whole = refl; reciprocals-whole = refl; positions-whole = refl },
-)
-
-pub overflow_mul-runs : goal.overflow_mul-runs
-overflow_mul-runs c = omega (arith, c.requires.source.1.size-most)
-
-pub run_row-row-requires : goal.run_row-row-requires
-run_row-row-requires c = (c.requires.source.1, c.loop-run-test.true)
-
-pub overflow_mul-first : goal.overflow_mul-first
-overflow_mul-first c = omega (arith, small c.args.c.target.cube.size c.loop-run.run c.loop-run-test.true c.requires.source.1.size-most)
-
-pub overflow_mul-first-in-loop-run : goal.overflow_mul-first-in-loop-run
-overflow_mul-first-in-loop-run c = omega (arith, small c.args.c.target.cube.size c.loop-run.run c.loop-run-test.true c.requires.source.1.size-most)
-
-pub overflow_mul-last : goal.overflow_mul-last
-overflow_mul-last c = omega (arith, small c.args.c.target.cube.size c.loop-run.run c.loop-run-test.true c.requires.source.1.size-most)
-
-pub overflow_add-last : goal.overflow_add-last
-overflow_add-last c = omega (arith, small c.args.c.target.cube.size c.loop-run.run c.loop-run-test.true c.requires.source.1.size-most)
+loop-run-init c = subst (Placed 2 0 _ _ _ _) (sym (zero-mul c.args.c.target.size)) (none-placed 2 _ 0 _ _)
 
 pub slice_bounds-convert_along-end : goal.slice_bounds-convert_along-end
 slice_bounds-convert_along-end c =
-    omega (arith, within c.args.c.target.cube.size c.loop-run.run c.loop-run-test.true c.loop-run.invariant.0 c.requires.target_len)
-
-pub convert_along-requires : goal.convert_along-requires
-convert_along-requires c =
-    let a = c.args in
-    let A = a.c.target.cube.size in
-    let first = 2 * (c.loop-run.run * A) in
-    record {
-      source = subst
-          (λ (row : Row). Source row.reading.cube.size row.reading.depth a.source.now a.strides.now a.weights.now)
-          (sym c.run_row-row.ensures) c.requires.source.0;
-      row_ready = (
-        subst (λ (row : Row). RowReady row.rays a.coordinates.now) (sym c.run_row-row.ensures)
-            (rays.run_row a.c a.coordinates.now c.requires.source.1 c.loop-run.run c.loop-run-test.true),
-        part_length first (first + 2 * A) c.loop-run.target (omega arith)
-            (within c.args.c.target.cube.size c.loop-run.run c.loop-run-test.true c.loop-run.invariant.0 c.requires.target_len)
-            ∙ omega (arith, c.requires.source.1.columns),
-      );
-      scratch = c.loop-run.invariant.1;
-    }
-
-pub overflow_add-run : goal.overflow_add-run
-overflow_add-run c = omega (arith, c.loop-run-test.true, c.requires.source.1.size-most)
-
-pub loop-run-smaller : goal.loop-run-smaller
-loop-run-smaller c = omega (arith, c.loop-run-test.true)
+    omega (arith, within c.args.c.target.size c.loop-run.run c.loop-run-test.true c.loop-run.invariant c.requires.1)

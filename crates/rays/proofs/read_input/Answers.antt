@@ -28,16 +28,16 @@ put a k n xs ys within fits =
 pub loop-end-preserved : goal.loop-end-preserved
 loop-end-preserved g c =
     let end = c.loop-end.end in
-    let more = c.in-Ok.more in
+    let more = c.in_ok-more.more in
     let old = c.loop-end.buffer in
     let within = c.loop-end.invariant.1 in
     let new = put_mid end (length old - end) old c.read.new.buf in
     let part : slice_range new end (end + more) ≡ take more c.read.new.buf =
-    put end (length old - end) more old c.read.new.buf within c.in-Ok.ensures.bound.0 in
+    put end (length old - end) more old c.read.new.buf within c.in_ok-more.ensures.bound.0 in
     let whole : take end old ++ take more c.read.new.buf ≡ take (end + more) new =
     ap (λ l. take end old ++ l) (sym part)
     ∙ joined end more old new (take-put_mid_below _ _ _ _ _ (le_refl _) within) in (
       search rules,
       search rules,
-      subst (Consumes _ _) whole (Consumes-trans _ _ _ _ _ c.loop-end.invariant.2 c.in-Ok.ensures.bytes.0),
+      subst (Consumes _ _) whole (Consumes-trans _ _ _ _ _ c.loop-end.invariant.2 c.in_ok-more.ensures.bytes.0),
     )

@@ -9,6 +9,3 @@ returns c =
     let e = scaled 2147483648 c.args.shift (omega arith) c.requires in
     let p = pow_pos c.args.shift in
     (omega (arith, e, p), omega (arith, e, power-most c.args.shift c.requires))
-
-pub overflow_sub-result : goal.overflow_sub-result
-overflow_sub-result c = omega (arith, scaled 2147483648 c.args.shift (omega arith) c.requires, pow_pos c.args.shift)

@@ -1,62 +1,74 @@
--- `divided` meets its contract: each of the four numbers by the common divisor, which is not 0.
-use mathlib.Core.Path.{◌≡◌, sym, ◌∙◌, ap, subst}
-use Prim.Native.Nat.{ℕ, ◌≤◌, ◌<◌, ◌^◌}
+-- `divided` meets its contract: each of the four numbers by the common divisor, which is small and not 0.
+use mathlib.Core.Path.{◌≡◌, refl, sym, ◌∙◌, ap, ap₂, subst}
+use Prim.Native.Nat.{ℕ, suc, ◌+◌, ◌/◌, ◌≤◌, ◌<◌}
+use native.Mathlib.Nat.{mod-one, le_trans, div-le_self}
 use native.Mathlib.Omega.{arith}
-use lib.IntN.{ℤ, nat_abs}
-use borrow.Author.Rules.{rules}
+use lib.IntN.{ℤ, pos, negsuc, nat_abs}
+use lib.Signed.{quot_z}
 use mir.Syntax.{w64}
 use mir.Val.{SFits, to_z, of_z}
 use mir.Facts.{to_z-of_z}
-use Rattle.arithmetic.proofs.Held.{held}
+use Rattle.arithmetic.proofs.Held.{held, held-nat, sfits}
+use Rattle.arithmetic.proofs.Sizes.{sign-size}
+use Rattle.arithmetic.proofs.Searches.{largest-is}
 use Rattle.cubemap.specs.declared.Rotation.{Rotation}
-use Rattle.cubemap.specs.Rotations.{common_divisor, divided_by}
+use Rattle.cubemap.specs.Rotations.{divides_all, common_divisor, divided_by}
+use Rattle.cubemap.proofs.Ranges.{Within}
 use Rattle.cubemap.proofs.Rotations.{rotation-eq}
-use Rattle.cubemap.proofs.Reduction.{divisor-positive, divided-numbers}
+use Rattle.cubemap.proofs.Reduction.{sizes, Divides, divides-out, divisor-positive, divided-numbers}
 use Rattle.rotation.proofs.divided.Goals as goal
 
--- what a quotient asks of its number and of the divisor
-asks : (t : Rotation) (d : ℕ) (x : ℤ) → d ≡ common_divisor t → nat_abs x ≤ 3844 → (0 < d) × (nat_abs (to_z w64 (of_z w64 x)) < 2 ^ 63)
-asks t d x e h =
-    (subst (λ n. 0 < n) (sym e) (divisor-positive t), subst (λ z. nat_abs z < 2 ^ 63) (sym (held x h tt).is) (omega arith))
+-- no divisor is searched for beyond the sum of the four sizes
+divisor-bounded : (t : Rotation) → common_divisor t ≤ sizes t + 1
+unfolding common_divisor
+divisor-bounded t =
+    let one : Divides t 1 = record { d0 = mod-one (nat_abs t.e0); d1 = mod-one (nat_abs t.e1); d2 = mod-one (nat_abs t.e2); d3 = mod-one (nat_abs t.e3) } in
+    omega (arith, (largest-is (divides_all t) (suc (sizes t)) 1 (omega arith) (divides-out t 1 one)).bounded)
 
--- and what it gives, read back
-gives : (t : Rotation) (d : ℕ) (x r : ℤ) → d ≡ common_divisor t → nat_abs x ≤ 3844 → SFits w64 r → r ≡ divided_by d (to_z w64 (of_z w64 x))
-    → to_z w64 (of_z w64 r) ≡ divided_by (common_divisor t) x
-gives t d x r e h f g = to_z-of_z f ∙ g ∙ ap (divided_by d) (held x h tt).is ∙ ap (λ n. divided_by n x) e
+quotient : (d : ℕ) (x : ℤ) → quot_z x (pos d) ≡ divided_by d x
+quotient d (pos n) = refl
+quotient d (negsuc n) = refl
 
-pub divided_by-e0-requires : goal.divided_by-e0-requires
-divided_by-e0-requires c =
-    let d = c.before in
-    asks d.args.t d.common_divisor-d.result d.args.t.e0 d.common_divisor-d.ensures d.requires.s0
+module _ (t : Rotation) (d : ℕ) (e : d ≡ common_divisor t) (w : Within 3844 t) where
+  small : d ≤ 15377
+  small = let s0 = w.s0 in let s1 = w.s1 in let s2 = w.s2 in let s3 = w.s3 in omega (arith, divisor-bounded t, e)
 
-pub divided_by-e1-requires : goal.divided_by-e1-requires
-divided_by-e1-requires c =
-    let d = c.before.before.before in
-    asks d.args.t d.common_divisor-d.result d.args.t.e1 d.common_divisor-d.ensures d.requires.s1
+  positive : 0 < d
+  positive = subst (λ n. 0 < n) (sym e) (divisor-positive t)
 
-pub divided_by-e2-requires : goal.divided_by-e2-requires
-divided_by-e2-requires c =
-    let d = c.before.before.before.before.before in
-    asks d.args.t d.common_divisor-d.result d.args.t.e2 d.common_divisor-d.ensures d.requires.s2
+  module _ (x : ℤ) (h : nat_abs x ≤ 3844) where
+    is : quot_z (to_z w64 (of_z w64 x)) (to_z w64 d) ≡ divided_by d x
+    is = ap₂ quot_z (held x h tt).is (held-nat small tt).is ∙ quotient d x
 
-pub divided_by-e3-requires : goal.divided_by-e3-requires
-divided_by-e3-requires c =
-    let d = c.before.before.before.before.before.before.before in
-    asks d.args.t d.common_divisor-d.result d.args.t.e3 d.common_divisor-d.ensures d.requires.s3
+    fits : SFits w64 (quot_z (to_z w64 (of_z w64 x)) (to_z w64 d))
+    fits = subst (SFits w64) (sym is)
+        (sfits {B = 3844} (subst (λ n. n ≤ 3844) (sym (sign-size x (nat_abs x / d))) (le_trans (div-le_self (nat_abs x) d) h)) (omega arith))
+
+    asks : (0 < d) × SFits w64 (quot_z (to_z w64 (of_z w64 x)) (to_z w64 d))
+    asks = (positive, fits)
+
+    gives : to_z w64 (of_z w64 (quot_z (to_z w64 (of_z w64 x)) (to_z w64 d))) ≡ divided_by (common_divisor t) x
+    gives = to_z-of_z fits ∙ is ∙ ap (λ n. divided_by n x) e
+
+pub overflow_cast-d : goal.overflow_cast-d
+overflow_cast-d c = let h = small c.args.t c.common_divisor-d.result c.common_divisor-d.ensures c.requires in record { sfits = omega arith }
+
+pub nonzero_div-result : goal.nonzero_div-result
+nonzero_div-result c = asks c.args.t c.common_divisor-d.result c.common_divisor-d.ensures c.requires c.args.t.e0 c.requires.s0
+
+pub nonzero_div-result-2 : goal.nonzero_div-result-2
+nonzero_div-result-2 c = asks c.args.t c.common_divisor-d.result c.common_divisor-d.ensures c.requires c.args.t.e1 c.requires.s1
+
+pub nonzero_div-result-3 : goal.nonzero_div-result-3
+nonzero_div-result-3 c = asks c.args.t c.common_divisor-d.result c.common_divisor-d.ensures c.requires c.args.t.e2 c.requires.s2
+
+pub nonzero_div-result-4 : goal.nonzero_div-result-4
+nonzero_div-result-4 c = asks c.args.t c.common_divisor-d.result c.common_divisor-d.ensures c.requires c.args.t.e3 c.requires.s3
 
 pub returns : goal.returns
 returns c =
-    let q3 = c.before.before in
-    let q2 = q3.before.before in
-    let q1 = q2.before.before in
-    let d = q1.before.before in
-    let w = d.requires in
-    let t = d.args.t in
-    let n = d.common_divisor-d.result in
-    let e = d.common_divisor-d.ensures in
-    rotation-eq
-    (gives t n t.e0 q1.divided_by-e0.result e w.s0 (search rules) q1.divided_by-e0.ensures)
-    (gives t n t.e1 q2.divided_by-e1.result e w.s1 (search rules) q2.divided_by-e1.ensures)
-    (gives t n t.e2 q3.divided_by-e2.result e w.s2 (search rules) q3.divided_by-e2.ensures)
-    (gives t n t.e3 c.divided_by-e3.result e w.s3 (search rules) c.divided_by-e3.ensures)
-    ∙ sym (divided-numbers t)
+    let t = c.args.t in
+    let w = c.requires in
+    let n = c.common_divisor-d.result in
+    let e = c.common_divisor-d.ensures in
+    rotation-eq (gives t n e w t.e0 w.s0) (gives t n e w t.e1 w.s1) (gives t n e w t.e2 w.s2) (gives t n e w t.e3 w.s3) ∙ sym (divided-numbers t)

@@ -9,6 +9,5 @@ use Rattle.rotation.proofs.rotated_x.Goals as goal
 
 pub returns : goal.returns
 returns c =
-    let s = c.args in
-    to_z-of_z {w = w64} {z = c.dot.result} (search rules) ∙ c.dot.ensures ∙ ap (λ r. dot r s.v) c.row1-row.ensures.0
-    ∙ sym (rotated-first s.t s.v)
+    to_z-of_z {w = w64} {z = c.dot.result} (search rules) ∙ c.dot.ensures ∙ ap (λ r. dot r c.args.v) c.row1.ensures.0
+    ∙ sym (rotated-first c.args.t c.args.v)

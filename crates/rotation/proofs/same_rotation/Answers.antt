@@ -1,7 +1,14 @@
 -- `same_rotation` meets its contract: the numbers of both, once reduced, are compared.
-use mathlib.Core.Path.{sym, ◌∙◌, ap₂}
+use mathlib.Core.Path.{◌≡◌, refl, sym, ◌∙◌, ap₂, subst}
+use mathlib.Core.Bool.{Bool, true, false, ◌&&◌}
 use native.Mathlib.Omega.{arith}
 use lib.Dec.{T}
+use lib.IntN.{ℤ}
+use Rattle.std.proofs.Common.{int_eq}
+use Rattle.arithmetic.specs.Integers.{equalℤ}
+use Rattle.std.proofs.lemmas.Bool.Decides.{Decides-int_eq, same_from_decides}
+use Rattle.arithmetic.proofs.Tests.{passes, same_test}
+use Rattle.arithmetic.proofs.Sizes.{equalℤ→eq, equalℤ-refl}
 use Rattle.cubemap.specs.declared.Rotation.{Rotation}
 use Rattle.cubemap.specs.Rotations.{same_numbers}
 use Rattle.cubemap.specs.Checks.{rotation_in_range}
@@ -12,14 +19,26 @@ use Rattle.rotation.proofs.same_rotation.Goals as goal
 small : (t : Rotation) → T (rotation_in_range t) → Within 3844 t
 small t h = within_more t (omega arith) (rotation-range t h)
 
-pub reduced-u-requires : goal.reduced-u-requires
-reduced-u-requires c = small c.args.a c.requires.0
+equal : (x y : ℤ) → int_eq x y ≡ equalℤ x y
+equal x y = same_from_decides (int_eq x y) (equalℤ x y) (Decides-int_eq x y)
+    (λ h. equalℤ→eq x y (passes h), λ e. subst (λ z. equalℤ x z ≡ true) e (same_test (equalℤ x x) true (λ _. tt) (λ _. equalℤ-refl x)))
 
-pub reduced-w-requires : goal.reduced-w-requires
-reduced-w-requires c = small c.args.b c.requires.1
+regroup : (a b c d : Bool) → (a && (b && (c && d))) ≡ (a && b && c && d)
+regroup true true c d = refl
+regroup true false c d = refl
+regroup false b c d = refl
+
+-- what the derived == computes
+compared : (t u : Rotation) → (int_eq t.e0 u.e0 && (int_eq t.e1 u.e1 && (int_eq t.e2 u.e2 && int_eq t.e3 u.e3))) ≡ same_numbers t u
+compared t u = regroup (int_eq t.e0 u.e0) (int_eq t.e1 u.e1) (int_eq t.e2 u.e2) (int_eq t.e3 u.e3) ∙ λ i. equal t.e0 u.e0 i && equal t.e1 u.e1 i && equal t.e2 u.e2 i && equal t.e3 u.e3 i
+
+pub reduced-requires : goal.reduced-requires
+reduced-requires c = small c.args.a c.requires.0
+
+pub reduced-requires-2 : goal.reduced-requires-2
+reduced-requires-2 c = small c.args.b c.requires.1
 
 pub returns : goal.returns
 returns c =
-    let s = c.before.before.before in
-    c.same_numbers.ensures ∙ ap₂ same_numbers c.reduced-u.ensures c.reduced-w.ensures
-    ∙ sym (same-reduced s.args.a s.args.b)
+    c.eq.ensures ∙ compared c.reduced.result c.reduced-2.result ∙ ap₂ same_numbers c.reduced.ensures c.reduced-2.ensures
+    ∙ sym (same-reduced c.args.a c.args.b)

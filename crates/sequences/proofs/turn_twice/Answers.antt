@@ -11,7 +11,9 @@ returns-then-first_code-eq0 c =
     turned-twice _ _ _ _ _ _ _ _ (record { first = c.turn-first_code.result; later = c.turn-later_code.result }) _ _ _ _ true
     (ap (λ n. eqb n 0) c.if-first_code-eq0.true) c.turn-first_code.ensures c.turn-later_code.ensures
 
-pub returns : goal.returns
-returns c =
-    turned-twice _ _ _ _ _ _ _ _ (record { first = c.turn-first_code.result; later = c.turn-later_code-2.result }) _ _ _ _ false
-    (ne_eqb c.turn-first_code.result 0 c.if-first_code-eq0.false) c.turn-first_code.ensures c.turn-later_code-2.ensures
+pub returns-else-first_code-eq0 : goal.returns-else-first_code-eq0
+returns-else-first_code-eq0 c =
+    turned-twice _ _ _ _ _ _ _ _
+    (record { first = c.turn-first_code.result; later = c.turn-later_code-else-first_code-eq0.result }) _ _ _ _ false
+    (ne_eqb c.turn-first_code.result 0 c.if-first_code-eq0.false) c.turn-first_code.ensures
+    c.turn-later_code-else-first_code-eq0.ensures

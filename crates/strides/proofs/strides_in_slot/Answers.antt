@@ -1,13 +1,12 @@
 -- `strides_in_slot` meets its contract: the four ways that a slot is turned, and no number beyond the slot's last
 -- index.
 use mathlib.Core.Path.{◌≡◌, refl, sym, subst}
-use Prim.Native.Nat.{ℕ, ◌+◌, ◌*◌, ◌-◌, ◌/◌, ◌≤◌, ◌<◌}
-use native.Mathlib.Nat.{mul-le-mul}
+use Prim.Native.Nat.{ℕ, ◌+◌, ◌*◌, ◌-◌, ◌≤◌, ◌<◌}
 use native.Mathlib.Omega.{arith}
 use lib.IntN.{ℤ, pos}
 use mir.Syntax.{w64}
 use mir.Val.{to_z}
-use Rattle.arithmetic.proofs.Held.{Held, held-nat, opposite-ok, opposite}
+use Rattle.arithmetic.proofs.Held.{Held, held-nat, opposite}
 use Rattle.cubemap.specs.Frames.{spot, quarter_turns, index_in_slot}
 use Rattle.strides.specs.FaceStrides.{StridesTo}
 use Rattle.strides.proofs.StrideIndices.{strides, same-strides, corner, last-below}
@@ -56,51 +55,3 @@ returns-in_default c =
     let r = c.requires in
     turned r 3 (omega arith) (read r _ (omega (arith, last r))) (opposite (width r) tt).is refl
     (strides-3 _ _ r.0 r.1 r.2)
-
-pub overflow_mul-corner : goal.overflow_mul-corner
-overflow_mul-corner c = omega (arith, mul-le-mul {n₁ = c.args.slot / 3} {n₂ = 1} {m₂ = 512} (omega arith) c.requires.1)
-
-pub overflow_mul-corner-2 : goal.overflow_mul-corner-2
-overflow_mul-corner-2 c = omega (arith, last c.requires)
-
-pub overflow_mul-corner-3 : goal.overflow_mul-corner-3
-overflow_mul-corner-3 c = omega (arith, last c.requires)
-
-pub overflow_add-corner : goal.overflow_add-corner
-overflow_add-corner c = omega (arith, last c.requires)
-
-pub overflow_cast-result : goal.overflow_cast-result
-overflow_cast-result c = record { sfits = omega (arith, last c.requires) }
-
-pub overflow_add-result : goal.overflow_add-result
-overflow_add-result c = omega (arith, last c.requires)
-
-pub overflow_cast-result-in-1 : goal.overflow_cast-result-in-1
-overflow_cast-result-in-1 c = record { sfits = omega (arith, last c.requires) }
-
-pub overflow_mul-result : goal.overflow_mul-result
-overflow_mul-result c = omega (arith, last c.requires)
-
-pub overflow_add-result-in-2 : goal.overflow_add-result-in-2
-overflow_add-result-in-2 c = omega (arith, last c.requires)
-
-pub overflow_add-result-in-2-2 : goal.overflow_add-result-in-2-2
-overflow_add-result-in-2-2 c = omega (arith, last c.requires)
-
-pub overflow_cast-result-in-2 : goal.overflow_cast-result-in-2
-overflow_cast-result-in-2 c = record { sfits = omega (arith, last c.requires) }
-
-pub overflow_sub-result-in-2-2 : goal.overflow_sub-result-in-2-2
-overflow_sub-result-in-2-2 c = opposite-ok (width c.requires) tt
-
-pub overflow_mul-result-in_default : goal.overflow_mul-result-in_default
-overflow_mul-result-in_default c = omega (arith, last c.requires)
-
-pub overflow_add-result-in_default : goal.overflow_add-result-in_default
-overflow_add-result-in_default c = omega (arith, last c.requires)
-
-pub overflow_cast-result-in_default : goal.overflow_cast-result-in_default
-overflow_cast-result-in_default c = record { sfits = omega (arith, last c.requires) }
-
-pub overflow_sub-result-in_default : goal.overflow_sub-result-in_default
-overflow_sub-result-in_default c = opposite-ok (width c.requires) tt

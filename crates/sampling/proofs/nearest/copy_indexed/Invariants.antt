@@ -1,12 +1,8 @@
 -- `copy_indexed` meets its contract: after each index the samples up to it are stored.
-use Prim.Native.Nat.{◌-◌}
-use lib.ListN.{get_or}
+use lib.ListN.{length, get_or}
 use Rattle.cubemap.specs.Frames.{sample_at}
 use Rattle.cubic.proofs.Storing.{FirstStored}
 use Rattle.sampling.proofs.nearest.copy_indexed.Given as goal
 
 abbrev pub invariant-loop-j : goal.invariant-loop-j
-invariant-loop-j l = FirstStored (λ i. sample_at l.plane (get_or l.indices i 0)) l.count l.j l.target
-
-abbrev pub decreases-loop-j : goal.decreases-loop-j
-decreases-loop-j l = l.count - l.j
+invariant-loop-j l = FirstStored (λ i. sample_at l.plane (get_or l.indices i 0)) (length l.indices) l.j l.target
