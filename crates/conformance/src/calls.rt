@@ -1,6 +1,7 @@
 // The six calls of fold, equal and look_up, each with its line.
 ghost use Rattle.std.specs.Prelude.{◌≡◌, ◌+◌, ◌*◌, ◌/◌, ◌≤◌, length};
 
+use crate::LINE;
 use crate::cases::turn_of;
 use cubemap::{Ray, Rotation};
 
@@ -48,8 +49,7 @@ fn fold(first: Rotation, later: Rotation, answer: &mut [u8]) -> u64 {
 }
 
 // The line of a fold.
-fn put_fold(text: &mut [u8], first: Rotation, later: Rotation) -> usize
-    requires { length text.old ≡ 572 }
+fn put_fold(text: &mut [u8; LINE], first: Rotation, later: Rotation) -> usize
     ensures { result ≤ 572 }
 {
     let mut answer = [0u8; 32];
@@ -67,8 +67,7 @@ fn equal(first: Rotation, second: Rotation, answer: &mut [u8]) -> u64 {
 }
 
 // The line of a test whether two turns are equal.
-fn put_equal(text: &mut [u8], first: Rotation, second: Rotation) -> usize
-    requires { length text.old ≡ 572 }
+fn put_equal(text: &mut [u8; LINE], first: Rotation, second: Rotation) -> usize
     ensures { result ≤ 572 }
 {
     let mut answer = [0u8; 8];
@@ -87,8 +86,7 @@ fn put_ray(text: &mut [u8], at: usize, ray: Ray) -> usize
 }
 
 // The line of a look-up.
-fn put_look_up(text: &mut [u8], size: u64, format: u64, ray: Ray) -> usize
-    requires { length text.old ≡ 572 }
+fn put_look_up(text: &mut [u8; LINE], size: u64, format: u64, ray: Ray) -> usize
     ensures { result ≤ 572 }
 {
     let mut answer = [0u8; 24];
@@ -101,8 +99,7 @@ fn put_look_up(text: &mut [u8], size: u64, format: u64, ray: Ray) -> usize
 
 impl Call {
     // The call's line.
-    pub fn put(self, text: &mut [u8]) -> usize
-        requires { length text.old ≡ 572 }
+    pub fn put(self, text: &mut [u8; LINE]) -> usize
         ensures { result ≤ 572 }
     {
         match self {

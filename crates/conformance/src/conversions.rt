@@ -2,7 +2,7 @@
 ghost use Rattle.std.specs.Prelude.{◌≡◌, ◌+◌, ◌*◌, ◌^◌, ◌≤◌, ◌<◌, min, length};
 
 use crate::samples::layout;
-use crate::{Case, Damage, Outcome, ScoreOutcome};
+use crate::{Case, Damage, Outcome, ROOM, ScoreOutcome};
 use cubemap::Shape;
 
 // Each byte of the target before the call.
@@ -141,9 +141,7 @@ fn with_layouts(case: Case, source: &[u8], target: &mut [u8]) -> Outcome {
 }
 
 // Fills the source, and lends both frames.
-pub fn run(case: Case, source: &mut [u8], target: &mut [u8]) -> Outcome
-    requires { (length source.old ≡ 3145729) × (length target.old ≡ 3145729) }
-{
+pub fn run(case: Case, source: &mut [u8; ROOM], target: &mut [u8; ROOM]) -> Outcome {
     let samples = frame_bytes(case.source_size) / 2;
     crate::samples::fill_source(source, samples, case.depth, case.damage);
     let source_end = lent(

@@ -1,7 +1,7 @@
 // The line of a conversion: each function stores bytes from index `at` on and says where they end.
 ghost use Rattle.std.specs.Prelude.{◌≡◌, ◌+◌, ◌*◌, ◌≤◌, length};
 
-use crate::{Case, Outcome};
+use crate::{Case, LINE, Outcome};
 use cubemap::Rotation;
 use itoa::{Buffer, Integer};
 
@@ -37,8 +37,7 @@ pub fn put_turn(text: &mut [u8], at: usize, turn: Rotation) -> usize
 }
 
 // The line of a conversion: a code is the refusal's number plus 256 times its index.
-pub fn put_line(text: &mut [u8], case: Case, outcome: Outcome) -> usize
-    requires { length text.old ≡ 572 }
+pub fn put_line(text: &mut [u8; LINE], case: Case, outcome: Outcome) -> usize
     ensures { result ≤ 572 }
 {
     let numbers = [

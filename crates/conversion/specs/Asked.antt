@@ -1,4 +1,4 @@
--- What a conversion is asked for: the settings, and the kinds that its codes stand for.
+-- What a conversion is asked for: the settings that a call names.
 use Rattle.cubemap.specs.Checks.{ConvertSettings, convert_settings}
 use Rattle.conversion.specs.declared.Settings.{Settings}
 

@@ -5,8 +5,8 @@ ghost use Rattle.std.specs.Prelude.{◌≡◌, ◌*◌, ◌≤◌, ◌<◌, get_
 ghost use Rattle.arithmetic.specs.Sums.{sum_below, both_terms};
 ghost use Rattle.cubemap.specs.Interface.{format_of};
 ghost use Rattle.cubemap.specs.Score.{error_sum, weight_sum};
-ghost use Rattle.cubemap.specs.Checks.{score_settings};
-ghost use Rattle.cubemap.specs.Outcomes.{scored_means, score_result};
+ghost use Rattle.cubemap.specs.Checks.{score_settings, first_failed, score_checks};
+ghost use Rattle.cubemap.specs.Outcomes.{converted_means, scored_means, score_result};
 ghost use Rattle.frame.specs.LumaPlane.{luma_of};
 ghost use Rattle.strides.specs.FaceStrides.{StrideTable};
 ghost use Rattle.differences.specs.PairSquares.{plane_pair_squares};
@@ -117,8 +117,30 @@ fn sums_of(format: Format, first: FrameView, second: FrameView) -> Sums
 
 // ---- the call
 
-// Scores two frames: asks questions 1, 3, 4, 5 and 8 to 11 in order, and then finds the two sums.
-#[tactic(auto, unfolding(cubemap::specs::Checks::first_failed, cubemap::specs::Checks::score_checks, cubemap::specs::Outcomes::score_result))]
+// Questions 1, 3, 4, 5 and 8 to 11, in order.
+#[tactic(auto, unfolding(cubemap::specs::Checks::first_failed, cubemap::specs::Checks::score_checks))]
+pub fn score_answer(
+    shape: Shape,
+    first_layout: &[u8],
+    second_layout: &[u8],
+    first: &[u8],
+    second: &[u8],
+) -> Result<(), Refusal>
+    ensures { converted_means result ≡ first_failed (score_checks (score_settings shape first_layout.now second_layout.now)
+        first.now second.now) }
+{
+    ask(size_ok(shape.size), Refusal::FaceSize)?;
+    ask(depth_ok(shape.depth), Refusal::Depth)?;
+    Format::try_from(shape.format)?;
+    let layouts = layout_ok(first_layout) & layout_ok(second_layout);
+    ask(layouts, Refusal::Layout)?;
+    ask(length_ok(shape, first.len()), Refusal::FirstLength)?;
+    ask(length_ok(shape, second.len()), Refusal::SecondLength)?;
+    samples_within(shape, first).map_err(Refusal::FirstSample)?;
+    samples_within(shape, second).map_err(Refusal::SecondSample)
+}
+
+// Scores two frames: asks the questions, and then finds the two sums.
 pub fn score(
     shape: Shape,
     first_layout: &[u8],
@@ -129,15 +151,7 @@ pub fn score(
     ensures { scored_means result ≡ score_result (score_settings shape first_layout.now second_layout.now)
         first.now second.now }
 {
-    ask(size_ok(shape.size), Refusal::FaceSize)?;
-    ask(depth_ok(shape.depth), Refusal::Depth)?;
-    let format = Format::try_from(shape.format)?;
-    let layouts = layout_ok(first_layout) & layout_ok(second_layout);
-    ask(layouts, Refusal::Layout)?;
-    ask(length_ok(shape, first.len()), Refusal::FirstLength)?;
-    ask(length_ok(shape, second.len()), Refusal::SecondLength)?;
-    samples_within(shape, first).map_err(Refusal::FirstSample)?;
-    samples_within(shape, second).map_err(Refusal::SecondSample)?;
+    score_answer(shape, first_layout, second_layout, first, second)?;
     let first_frame = FrameView {
         bytes: first,
         shape,
@@ -148,5 +162,6 @@ pub fn score(
         shape,
         layout: frame::layout_of(second_layout),
     };
+    let format = cubemap::format_of(shape.format);
     Ok(sums_of(format, first_frame, second_frame))
 }

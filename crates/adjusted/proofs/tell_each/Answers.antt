@@ -34,6 +34,7 @@ loop-j-preserved g c =
     let told = c.tell-told in
     let sums = c.args.table.now in
     let distances = c.args.divisors.distances.now in record {
+      whole = search rules;
       kept = (λ i h. get_or-set_other l.table l.j i told.result.entry 0 (λ (e : i ≡ l.j). absurd (omega (arith, h, e)))
           ∙ l.invariant.kept i (omega (arith, h)));
       told = (λ t u i h.
@@ -51,8 +52,6 @@ pub returns : goal.returns
 returns g c =
     let l = c.loop-j in
     let brackets = ltb l.brackets 4611686018427387904 in
-    let sizes = ltb l.sizes 536870912 in (
-      reached-end _ _ _ l.invariant (omega arith)
-          (λ e. (ltb→lt _ _ (and_left brackets sizes (passes e)), ltb→lt _ _ (and_right brackets sizes (passes e)))),
-      search rules,
-    )
+    let sizes = ltb l.sizes 536870912 in
+    reached-end _ _ _ l.invariant (omega arith)
+    (λ e. (ltb→lt _ _ (and_left brackets sizes (passes e)), ltb→lt _ _ (and_right brackets sizes (passes e))))
