@@ -1,7 +1,7 @@
 // The listing program's work: bytes of records go in, the bytes of the listing come out in a lent buffer.
 #![tactic(auto)]
 
-ghost use Rattle.std.specs.Prelude.{◌≡◌, ℤ, [], ◌∷◌, ◌+◌, ◌≤◌, ◌<◌, pos, length};
+ghost use Rattle.std.specs.Prelude.{◌≡◌, true, ℤ, [], ◌∷◌, ◌+◌, ◌≤◌, ◌<◌, pos, length};
 ghost use Rattle.cubemap.specs.Outcomes.{looked_up_means, look_up_values, refusal};
 ghost use Rattle.cubemap.specs.Listing as paper;
 ghost use Rattle.cubemap.specs.Promises.{ListingPromise};
@@ -73,12 +73,12 @@ fn ray_of(bytes: &[u8]) -> Ray
     }
 }
 
-// What a record comes to: 16, then 15 (kind 1 with length 15?), then the look-up's questions.
+// What a whole record comes to: 15 (kind 1 with length 15?), then the look-up's questions.
 #[tactic(auto, unfolding(cubemap::specs::Listing::is_whole, cubemap::specs::Listing::is_ray_record, cubemap::specs::Listing::record_checks, cubemap::specs::Listing::record_result, cubemap::specs::Checks::first_failed))]
-fn result_of(bytes: &[u8]) -> Result<Located, Refusal>
+fn whole_result(bytes: &[u8]) -> Result<Located, Refusal>
+    requires { paper.is_whole bytes.now ≡ true }
     ensures { looked_up_means result ≡ paper.record_result bytes.now }
 {
-    whole_length(bytes)?;
     let is_ray = (two_bytes(bytes, 4) == 1) & (four_bytes(bytes, 0) == 15);
     ask(is_ray, Refusal::RecordKind)?;
     look_up::look_up(
@@ -88,11 +88,17 @@ fn result_of(bytes: &[u8]) -> Result<Located, Refusal>
     )
 }
 
-// How many bytes to pass over: the record, or all that is left where it is not whole.
-fn length_of(bytes: &[u8]) -> usize
-    ensures { result ≡ passed bytes.now }
+// What the first record of the input comes to, 16 and then the rest, and how many bytes to pass over: the record, or all
+// that is left where it is not whole.
+#[tactic(auto, unfolding(cubemap::specs::Listing::record_checks, cubemap::specs::Listing::record_result, cubemap::specs::Checks::first_failed))]
+fn first_record(bytes: &[u8]) -> (Result<Located, Refusal>, usize)
+    ensures found { looked_up_means result.0 ≡ paper.record_result bytes.now }
+    ensures length { result.1 ≡ passed bytes.now }
 {
-    whole_length(bytes).unwrap_or(bytes.len())
+    match whole_length(bytes) {
+        Ok(length) => (whole_result(bytes), length),
+        Err(refused) => (Err(refused), bytes.len()),
+    }
 }
 
 // ---- text: each function stores bytes from index `at` on and says where they end
@@ -214,9 +220,9 @@ fn put_lines(text: &mut [u8], at: usize, input: &[u8]) -> usize
     let mut k: u64 = 0;
     let mut from = 0;
     while from < input.len() {
-        let bytes = &input[from..];
-        end = put_line(text, end, k, result_of(bytes));
-        from += length_of(bytes);
+        let (found, length) = first_record(&input[from..]);
+        end = put_line(text, end, k, found);
+        from += length;
         k += 1;
     }
     end

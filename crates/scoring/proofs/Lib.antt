@@ -1,4 +1,3 @@
 mod Summing
 mod WeighedSums
 mod AlignedSums
-mod Layouts

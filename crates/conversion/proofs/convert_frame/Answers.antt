@@ -27,9 +27,6 @@ use Rattle.conversion.proofs.ConvertedPlane.{source-long, shallow, strided, byte
 use Rattle.conversion.proofs.convert_frame.Goals.{After-luma_end-end, After-luma}
 use Rattle.conversion.proofs.convert_frame.Goals as goal
 
-twelve : (L : List ℕ) → T (layout_ok L) → length L ≡ 12
-twelve L t = (layout-holds L t).twelve_bytes
-
 -- the source, and the strides that lead to its samples
 module _ (u : After-luma) where
   abbrev settings : ConvertSettings
@@ -74,7 +71,7 @@ module _ (u : After-luma_end-end) where
   room = target-bytes u.requires.passed
 
 pub layout_of-requires : goal.layout_of-requires
-layout_of-requires c = twelve _ c.requires.passed.source-layout
+layout_of-requires c = (layout-holds _ c.requires.passed.source-layout).twelve_bytes
 
 pub face_strides-strides-requires : goal.face_strides-strides-requires
 face_strides-strides-requires c =
@@ -110,7 +107,7 @@ invariant_of-read c =
     }
 
 pub layout_of-requires-2 : goal.layout_of-requires-2
-layout_of-requires-2 c = twelve _ c.requires.passed.target-layout
+layout_of-requires-2 c = (layout-holds _ c.requires.passed.target-layout).twelve_bytes
 
 pub face_coordinates-coordinates-requires : goal.face_coordinates-coordinates-requires
 face_coordinates-coordinates-requires c = (size-range _ c.requires.passed.target-size).at_most

@@ -30,15 +30,15 @@ pub put_line-end-requires : goal.put_line-end-requires
 put_line-end-requires c =
     let input = c.args.input.now in
     let l = c.loop-from in
-    room-is _ _ (sym (line-is input l.from l.k c.result_of.ensures))
+    room-is _ _ (sym (line-is input l.from l.k c.first_record-found.ensures.found))
     (line-room input l.invariant c.loop-from-test.true c.requires)
 
 pub loop-from-preserved : goal.loop-from-preserved
 loop-from-preserved c =
     let input = c.args.input.now in
     let l = c.loop-from in
-    one_more input l.invariant c.loop-from-test.true (length-is input l.from c.length_of-from.ensures)
-    (put_is (line-is input l.from l.k c.result_of.ensures) c.put_line-end.ensures)
+    one_more input l.invariant c.loop-from-test.true (length-is input l.from c.first_record-found.ensures.length)
+    (put_is (line-is input l.from l.k c.first_record-found.ensures.found) c.put_line-end.ensures)
 
 pub returns : goal.returns
 returns c = all_lines c.args.input.now c.loop-from.invariant c.loop-from-test.false

@@ -11,10 +11,10 @@ use Rattle.cubemap.specs.Interface.{Answer, accepted, is_accepted}
 use Rattle.cubemap.specs.Frames.{Frame}
 use Rattle.cubemap.specs.Checks.{score_settings}
 use Rattle.cubemap.specs.Outcomes.{scored_means, result, if_accepted}
+use Rattle.cubemap.proofs.Layouts.{layout-holds}
 use Rattle.cubemap.proofs.Passed.{ScorePassed, score-passed}
 use Rattle.cubemap.proofs.Results.{refused-gives, score-is}
 use Rattle.scoring.specs.Comparing.{Comparable, sums_of}
-use Rattle.scoring.proofs.Layouts.{twelve}
 use Rattle.scoring.proofs.score.Goals.{In_ok-score_answer}
 use Rattle.scoring.proofs.score.Goals as goal
 
@@ -36,10 +36,11 @@ returns-in_err-score_answer c =
     rw (p.1, p.2) (refused-gives c.in_err-score_answer.field-0.0 _ c.in_err-score_answer.ensures ∙ score-is _ _ _)
 
 pub layout_of-requires : goal.layout_of-requires
-layout_of-requires c = twelve _ (passed c).first-layout
+layout_of-requires c = (layout-holds _ (passed c).first-layout).twelve_bytes
 
 pub layout_of-requires-2 : goal.layout_of-requires-2
-layout_of-requires-2 c = twelve _ (passed (goal.at.layout_of-requires-2 c).In_ok-score_answer).second-layout
+layout_of-requires-2 c =
+    (layout-holds _ (passed (goal.at.layout_of-requires-2 c).In_ok-score_answer).second-layout).twelve_bytes
 
 pub sums_of-requires : goal.sums_of-requires
 sums_of-requires c =
