@@ -9,6 +9,11 @@ use Rattle.cubemap.specs.Checks.{depth_ok, samples_ok, lowest_beyond}
 abbrev pub asked : Bool → Refusal → Returned Unit Refusal
 asked holds refused = cond holds (Ok tt) (Err refused)
 
+-- one question more, behind the `?` of those before it: it is asked only where they came to "yes"
+abbrev pub asked_after : Returned Unit Refusal → Bool → Refusal → Returned Unit Refusal
+asked_after (Ok done) holds refused = asked holds refused
+asked_after (Err earlier) holds refused = Err earlier
+
 -- what code asks of a frame before it looks at its samples
 pub record Readable (z : Shape) (bytes : List ℕ) : Type 0 where
   pub size-most : z.size ≤ 512

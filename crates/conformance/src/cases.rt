@@ -24,6 +24,7 @@ fn plain(
     turn: Rotation,
 ) -> Case
     requires { depth < 16 }
+    ensures { result.depth ≡ depth }
 {
     Case {
         source_size,
@@ -40,7 +41,9 @@ fn plain(
 }
 
 // The conversion with the codes of a mix, 0 to 7: its three bits.
-fn mixed(mut case: Case, mix: u64) -> Case {
+fn mixed(mut case: Case, mix: u64) -> Case
+    ensures { result.depth ≡ case.depth }
+{
     case.source_format = mix % 2;
     case.target_format = mix / 2 % 2;
     case.sampler = mix / 4;

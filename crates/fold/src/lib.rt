@@ -10,7 +10,6 @@ use checks::{ask, rotation_in_range, rotation_nonzero};
 use cubemap::{Refusal, Rotation};
 
 // Questions 6 and 7, of two rotations.
-#[tactic(auto, unfolding(cubemap::specs::Checks::first_failed, cubemap::specs::Checks::equal_checks))]
 fn ask_rotations(first: Rotation, second: Rotation) -> Result<(), Refusal>
     ensures { converted_means result ≡ first_failed (equal_checks first second) }
 {

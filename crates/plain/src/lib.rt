@@ -1,7 +1,7 @@
 // T + 32 in CMP along a stretch of evenly spaced columns: guessed by any means, and confirmed in whole numbers.
 #![tactic(auto)]
 
-ghost use Rattle.std.specs.Prelude.{◌≡◌, true, ◌+◌, ◌*◌, ◌≤◌, ◌<◌, pos, nat_abs, ◌+ℤ◌, ◌*ℤ◌};
+ghost use Rattle.std.specs.Prelude.{◌≡◌, true, ◌+◌, ◌*◌, ◌≤◌, ◌<◌, pos, nat_abs, length, ◌+ℤ◌, ◌*ℤ◌};
 ghost use Rattle.arithmetic.specs.Integers.{natural};
 ghost use Rattle.plain.specs.Walks.{size_at, rest_at, width_at, WalkInRange, Forward, Carries, Plain};
 
@@ -140,7 +140,9 @@ fn guess_at(lg: u64, n: u64) -> u64
 }
 
 // Eight guesses: the first, what is added to it, and what that grows by.
-fn eight(first: u64, step: u64, second: u64, guesses: &mut [u64]) {
+fn eight(first: u64, step: u64, second: u64, guesses: &mut [u64])
+    ensures { length guesses.new ≡ length guesses.old }
+{
     let mut next = first;
     let mut by = step;
     for guess in guesses.iter_mut() {

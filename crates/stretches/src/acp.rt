@@ -33,7 +33,7 @@ fn acp_line(stretch: LineStretch<'_>, divisors: ReciprocalTable<'_>, table: &mut
         × (length divisors.distances.now ≡ length stretch.coordinates.now)
         × (length stretch.coordinates.now ≤ length table.old) }
     ensures { Positioned Format.Acp stretch.entry.size stretch.entry.line stretch.entry.distance
-        stretch.entry.coordinates.now table.new }
+        stretch.entry.coordinates.now table.new × (length table.new ≡ length table.old) }
 {
     let sums = stretch.line.plus(stretch.distance);
     line_numbers(sums, stretch.coordinates, table);

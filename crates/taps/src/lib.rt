@@ -8,6 +8,7 @@ ghost use Rattle.taps.specs.Fields.{sample_in, Packed, Packed12, evens, odds};
 ghost use Rattle.taps.specs.InOrder.{in_order};
 ghost use Rattle.taps.specs.TapWeights.{weighed, row_sum};
 
+pub use table::tap_weights;
 pub use weights::Weights;
 
 mod sizes;

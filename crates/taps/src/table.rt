@@ -2,7 +2,7 @@
 ghost use Rattle.taps.specs.TapWeights.{IsWeights};
 
 // The weights of the four taps at each phase.
-pub fn weights() -> &'static [[i64; 4]; 64]
+pub fn tap_weights() -> &'static [[i64; 4]; 64]
     ensures { IsWeights result.now }
 {
     &WEIGHTS

@@ -20,7 +20,7 @@ impl Weights {
         requires { phase < 64 }
         ensures { in_order result ≡ weights_of (pos phase) }
     {
-        let row = crate::table::weights()[phase as usize];
+        let row = crate::table::tap_weights()[phase as usize];
         Weights {
             w0: row[0],
             w1: row[1],

@@ -20,6 +20,32 @@ fn offset(size: u64, m: u64) -> u64
     geometry::from_centre(size, m).unsigned_abs()
 }
 
+// The weights of a row, into a table of any numbers. The guesses are those of the row before, and then of this one;
+// only the time depends on them. Opposite columns weigh the same.
+pub fn weigh_row(
+    format: Format,
+    size: u64,
+    row: u64,
+    weights: &mut [u64; 512],
+    guesses: &mut [u64; 256],
+)
+    requires { (1 ≤ size) × (size ≤ 512) × (row < size) }
+    ensures { Weighed format size row weights.new × AtMost size 65536 weights.new }
+{
+    let q = offset(size, row);
+    let q_before = offset(size, row.saturating_sub(1));
+    for column in 0..(size + 1) / 2 {
+        let opposite = size - 1 - column;
+        let p = opposite - column;
+        let place = Offsets { size, p, q };
+        let guess = place.guess_from(q_before, guesses[column as usize]);
+        let weight = place.weight(format, guess / 65536);
+        guesses[column as usize] = place.corrected(guess, weight);
+        weights[column as usize] = weight;
+        weights[opposite as usize] = weight;
+    }
+}
+
 // A row's weights on faces of a size, and the guesses from which the next row's are found. The tables have the greatest
 // length, since there is no heap; nothing is said of the entries from A on.
 #[derive(Drop)]
@@ -44,25 +70,12 @@ impl RowWeights {
         }
     }
 
-    // Finds the weights of a row. The guesses are those of the row before, and then of this one. Opposite columns weigh
-    // the same.
+    // Finds the weights of a row, by the guesses of the row that was found before it.
     pub fn weigh(&mut self, format: Format, row: u64)
         requires { row < self.old.size }
         ensures { Weighed format self.old.size row self.new.weights × (self.new.size ≡ self.old.size) }
     {
-        let size = self.size;
-        let q = offset(size, row);
-        let q_before = offset(size, row.saturating_sub(1));
-        for column in 0..(size + 1) / 2 {
-            let opposite = size - 1 - column;
-            let p = opposite - column;
-            let place = Offsets { size, p, q };
-            let guess = place.guess_from(q_before, self.guesses[column as usize]);
-            let weight = place.weight(format, guess / 65536);
-            self.guesses[column as usize] = place.corrected(guess, weight);
-            self.weights[column as usize] = weight;
-            self.weights[opposite as usize] = weight;
-        }
+        weigh_row(format, self.size, row, &mut self.weights, &mut self.guesses);
     }
 
     // The sum of the row's weights.

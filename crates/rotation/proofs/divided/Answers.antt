@@ -1,15 +1,14 @@
 -- `divided` meets its contract: each of the four numbers by the common divisor, which is small and not 0.
-use mathlib.Core.Path.{◌≡◌, refl, sym, ◌∙◌, ap, ap₂, subst}
-use Prim.Native.Nat.{ℕ, suc, ◌+◌, ◌/◌, ◌≤◌, ◌<◌}
-use native.Mathlib.Nat.{mod-one, le_trans, div-le_self}
+use mathlib.Core.Path.{◌≡◌, sym, ◌∙◌, ap, subst}
+use Prim.Native.Nat.{ℕ, suc, ◌+◌, ◌^◌, ◌≤◌, ◌<◌}
+use native.Mathlib.Nat.{mod-one}
 use native.Mathlib.Omega.{arith}
-use lib.IntN.{ℤ, pos, negsuc, nat_abs}
-use lib.Signed.{quot_z}
+use lib.IntN.{ℤ, nat_abs}
+use borrow.Author.Rules.{rules}
 use mir.Syntax.{w64}
 use mir.Val.{SFits, to_z, of_z}
 use mir.Facts.{to_z-of_z}
-use Rattle.arithmetic.proofs.Held.{held, held-nat, sfits}
-use Rattle.arithmetic.proofs.Sizes.{sign-size}
+use Rattle.arithmetic.proofs.Held.{held}
 use Rattle.arithmetic.proofs.Searches.{largest-is}
 use Rattle.cubemap.specs.declared.Rotation.{Rotation}
 use Rattle.cubemap.specs.Rotations.{divides_all, common_divisor, divided_by}
@@ -25,45 +24,35 @@ divisor-bounded t =
     let one : Divides t 1 = record { d0 = mod-one (nat_abs t.e0); d1 = mod-one (nat_abs t.e1); d2 = mod-one (nat_abs t.e2); d3 = mod-one (nat_abs t.e3) } in
     omega (arith, (largest-is (divides_all t) (suc (sizes t)) 1 (omega arith) (divides-out t 1 one)).bounded)
 
-quotient : (d : ℕ) (x : ℤ) → quot_z x (pos d) ≡ divided_by d x
-quotient d (pos n) = refl
-quotient d (negsuc n) = refl
-
 module _ (t : Rotation) (d : ℕ) (e : d ≡ common_divisor t) (w : Within 3844 t) where
   small : d ≤ 15377
   small = let s0 = w.s0 in let s1 = w.s1 in let s2 = w.s2 in let s3 = w.s3 in omega (arith, divisor-bounded t, e)
 
-  positive : 0 < d
-  positive = subst (λ n. 0 < n) (sym e) (divisor-positive t)
-
   module _ (x : ℤ) (h : nat_abs x ≤ 3844) where
-    is : quot_z (to_z w64 (of_z w64 x)) (to_z w64 d) ≡ divided_by d x
-    is = ap₂ quot_z (held x h tt).is (held-nat small tt).is ∙ quotient d x
+    -- what a quotient asks of its number and of the divisor
+    asks : (0 < d) × (d < 2 ^ 31) × (nat_abs (to_z w64 (of_z w64 x)) < 2 ^ 31)
+    asks = (
+      subst (λ n. 0 < n) (sym e) (divisor-positive t),
+      omega (arith, small),
+      subst (λ z. nat_abs z < 2 ^ 31) (sym (held x h tt).is) (omega arith),
+    )
 
-    fits : SFits w64 (quot_z (to_z w64 (of_z w64 x)) (to_z w64 d))
-    fits = subst (SFits w64) (sym is)
-        (sfits {B = 3844} (subst (λ n. n ≤ 3844) (sym (sign-size x (nat_abs x / d))) (le_trans (div-le_self (nat_abs x) d) h)) (omega arith))
+    -- and what it gives, read back
+    gives : (r : ℤ) → SFits w64 r → r ≡ divided_by d (to_z w64 (of_z w64 x))
+        → to_z w64 (of_z w64 r) ≡ divided_by (common_divisor t) x
+    gives r f g = to_z-of_z f ∙ g ∙ ap (divided_by d) (held x h tt).is ∙ ap (λ n. divided_by n x) e
 
-    asks : (0 < d) × SFits w64 (quot_z (to_z w64 (of_z w64 x)) (to_z w64 d))
-    asks = (positive, fits)
+pub divided_by-requires : goal.divided_by-requires
+divided_by-requires c = asks c.args.t c.common_divisor-d.result c.common_divisor-d.ensures c.requires c.args.t.e0 c.requires.s0
 
-    gives : to_z w64 (of_z w64 (quot_z (to_z w64 (of_z w64 x)) (to_z w64 d))) ≡ divided_by (common_divisor t) x
-    gives = to_z-of_z fits ∙ is ∙ ap (λ n. divided_by n x) e
+pub divided_by-requires-2 : goal.divided_by-requires-2
+divided_by-requires-2 c = asks c.args.t c.common_divisor-d.result c.common_divisor-d.ensures c.requires c.args.t.e1 c.requires.s1
 
-pub overflow_cast-d : goal.overflow_cast-d
-overflow_cast-d c = let h = small c.args.t c.common_divisor-d.result c.common_divisor-d.ensures c.requires in record { sfits = omega arith }
+pub divided_by-requires-3 : goal.divided_by-requires-3
+divided_by-requires-3 c = asks c.args.t c.common_divisor-d.result c.common_divisor-d.ensures c.requires c.args.t.e2 c.requires.s2
 
-pub nonzero_div-result : goal.nonzero_div-result
-nonzero_div-result c = asks c.args.t c.common_divisor-d.result c.common_divisor-d.ensures c.requires c.args.t.e0 c.requires.s0
-
-pub nonzero_div-result-2 : goal.nonzero_div-result-2
-nonzero_div-result-2 c = asks c.args.t c.common_divisor-d.result c.common_divisor-d.ensures c.requires c.args.t.e1 c.requires.s1
-
-pub nonzero_div-result-3 : goal.nonzero_div-result-3
-nonzero_div-result-3 c = asks c.args.t c.common_divisor-d.result c.common_divisor-d.ensures c.requires c.args.t.e2 c.requires.s2
-
-pub nonzero_div-result-4 : goal.nonzero_div-result-4
-nonzero_div-result-4 c = asks c.args.t c.common_divisor-d.result c.common_divisor-d.ensures c.requires c.args.t.e3 c.requires.s3
+pub divided_by-requires-4 : goal.divided_by-requires-4
+divided_by-requires-4 c = asks c.args.t c.common_divisor-d.result c.common_divisor-d.ensures c.requires c.args.t.e3 c.requires.s3
 
 pub returns : goal.returns
 returns c =
@@ -71,4 +60,9 @@ returns c =
     let w = c.requires in
     let n = c.common_divisor-d.result in
     let e = c.common_divisor-d.ensures in
-    rotation-eq (gives t n e w t.e0 w.s0) (gives t n e w t.e1 w.s1) (gives t n e w t.e2 w.s2) (gives t n e w t.e3 w.s3) ∙ sym (divided-numbers t)
+    rotation-eq
+    (gives t n e w t.e0 w.s0 c.divided_by.result (search rules) c.divided_by.ensures)
+    (gives t n e w t.e1 w.s1 c.divided_by-2.result (search rules) c.divided_by-2.ensures)
+    (gives t n e w t.e2 w.s2 c.divided_by-3.result (search rules) c.divided_by-3.ensures)
+    (gives t n e w t.e3 w.s3 c.divided_by-4.result (search rules) c.divided_by-4.ensures)
+    ∙ sym (divided-numbers t)
