@@ -12,7 +12,7 @@ use Rattle.arithmetic.proofs.Tests.{and_left, and_right, and_both}
 use Rattle.arithmetic.proofs.Searches.{Asked, lowest-here, lowest-none}
 use Rattle.cubemap.specs.declared.Refusal.{Refusal}
 use Rattle.cubemap.specs.declared.Shape.{Shape}
-use Rattle.cubemap.specs.Interface.{answer, accepted, is_accepted}
+use Rattle.cubemap.specs.Interface.{Answer, answer, accepted, is_accepted}
 use Rattle.cubemap.specs.Frames.{samples_in}
 use Rattle.cubemap.specs.Checks.{Check, first_failed, size_ok, depth_ok, length_ok, sample_ok, lowest_beyond}
 use Rattle.cubemap.specs.Outcomes.{refusal, converted_means}
@@ -23,23 +23,26 @@ use Rattle.checks.specs.Asking.{asked_after, Readable, searched}
 
 -- ---- one after the other
 
--- the checks in front have come to `x`, and the rest is still to be asked
-pub record Asking (front rest : List Check) (x : Returned Unit Refusal) : Type 0 where
-  pub answered : converted_means x ≡ first_failed front
+-- one check more: it decides where none before it did
+abbrev pub decided : Answer → Bool → Answer → Answer
+decided so_far holds refused = cond (is_accepted so_far) (cond holds accepted refused) so_far
+
+-- the checks in front have come to the answer a, and the rest is still to be asked
+pub record Asking (front rest : List Check) (a : Answer) : Type 0 where
+  pub answered : a ≡ first_failed front
   pub numbers : T (numbered front)
   pub left : T (numbered rest)
 
-pub start : (cs : List Check) → T (numbered cs) → Asking [] cs (Ok tt)
+pub start : (cs : List Check) → T (numbered cs) → Asking [] cs accepted
 unfolding first_failed
 start cs n = record { answered = refl; numbers = tt; left = n }
 
--- the next one, whose test gave b and whose "no" is q
-pub next : {front rest : List Check} {c : Check} {x : Returned Unit Refusal} {b : Bool} (q : Refusal)
-    → Asking front (c ∷ rest) x → b ≡ c.holds → refusal q ≡ answer c.number c.index
-    → Asking (front ++ (c ∷ [])) rest (asked_after x b q)
+-- the next one, whose test gave b
+pub next : {front rest : List Check} {c : Check} {a r : Answer} {b : Bool} → Asking front (c ∷ rest) a → b ≡ c.holds
+    → r ≡ decided a b (answer c.number c.index) → Asking (front ++ (c ∷ [])) rest r
 unfolding first_failed
-next {front} {rest} {c} {x} {b} q h t e = record {
-  answered = means x b ∙ ap₂ (λ a r. cond (is_accepted a) r a) h.answered (ap₂ (λ b r. cond b accepted r) t e)
+next {front} {rest} {c} h t e = record {
+  answered = e ∙ ap₂ (λ a b. decided a b (answer c.number c.index)) h.answered t
       ∙ sym (first_failed-append front (c ∷ []) h.numbers);
   numbers = numbered-append front (c ∷ []) h.numbers (and_both nonzero true (and_left nonzero (numbered rest) h.left) tt);
   left = and_right nonzero (numbered rest) h.left;
@@ -48,30 +51,42 @@ next {front} {rest} {c} {x} {b} q h t e = record {
     nonzero : Bool
     nonzero = not (eqb c.number 0)
 
-    -- it decides where none before it did
-    means : (x : Returned Unit Refusal) (b : Bool) → converted_means (asked_after x b q)
-        ≡ cond (is_accepted (converted_means x)) (cond b accepted (refusal q)) (converted_means x)
-    means (Ok done) true = refl
-    means (Ok done) false = refl
-    means (Err earlier) b =
-        sym (ap (λ a. cond a (cond b accepted (refusal q)) (refusal earlier)) (not-accepted earlier))
-
 -- those in front hold where none of them ended the call
-pub all_asked : {front rest : List Check} {x : Returned Unit Refusal} → Asking front rest x
-    → T (is_accepted (converted_means x)) → AllHold front
+pub all_asked : {front rest : List Check} {a : Answer} → Asking front rest a → T (is_accepted a) → AllHold front
 all_asked {front} h t = all_hold front h.numbers (subst (λ a. T (is_accepted a)) h.answered t)
 
--- a call whose questions are all asked comes to the answer of the first that fails
-pub all_answered : {cs : List Check} {x : Returned Unit Refusal} → Asking cs [] x → converted_means x ≡ first_failed cs
+-- a call whose checks are all asked comes to the answer of the first that fails
+pub all_answered : {cs : List Check} {a : Answer} → Asking cs [] a → a ≡ first_failed cs
 all_answered h = h.answered
 
--- a "no" ends the call: the rest cannot change it
-pub ended : {front rest : List Check} {earlier : Refusal} → Asking front rest (Err earlier)
-    → refusal earlier ≡ first_failed (front ++ rest)
-ended {front} {rest} {earlier} h =
-    sym (ap (λ a. cond a (first_failed rest) (refusal earlier)) (not-accepted earlier))
-    ∙ ap (λ a. cond (is_accepted a) (first_failed rest) a) h.answered
+-- a "no" ends the call: the rest does not change it
+pub ended : {front rest : List Check} {a : Answer} → Asking front rest a → is_accepted a ≡ false
+    → a ≡ first_failed (front ++ rest)
+ended {front} {rest} {a} h e =
+    sym (ap (λ t. cond t (first_failed rest) a) e) ∙ ap (λ a. cond (is_accepted a) (first_failed rest) a) h.answered
     ∙ sym (first_failed-append front rest h.numbers)
+
+-- ---- in code: `ask`, and the `?` behind it
+
+-- the first "no" decides
+asked-means : (x : Returned Unit Refusal) (b : Bool) (q : Refusal)
+    → converted_means (asked_after x b q) ≡ decided (converted_means x) b (refusal q)
+asked-means (Ok done) true q = refl
+asked-means (Ok done) false q = refl
+asked-means (Err earlier) b q =
+    sym (ap (λ t. cond t (cond b accepted (refusal q)) (refusal earlier)) (not-accepted earlier))
+
+-- the next question, whose test gave b and whose "no" is q
+pub next-asked : {front rest : List Check} {c : Check} {b : Bool} (x : Returned Unit Refusal) (q : Refusal)
+    → Asking front (c ∷ rest) (converted_means x) → b ≡ c.holds → refusal q ≡ answer c.number c.index
+    → Asking (front ++ (c ∷ [])) rest (converted_means (asked_after x b q))
+next-asked {b = b} x q h t e =
+    next h t (asked-means x b q ∙ ap (λ r. decided (converted_means x) b r) e)
+
+-- behind a "no" of one question the call ends with it
+pub ended-refused : {front rest : List Check} (q : Refusal) → Asking front rest (refusal q)
+    → refusal q ≡ first_failed (front ++ rest)
+ended-refused q h = ended h (not-accepted q)
 
 -- ---- what a "yes" says
 

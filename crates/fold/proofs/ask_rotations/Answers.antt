@@ -8,8 +8,8 @@ use Rattle.cubemap.specs.declared.Refusal.{Refusal}
 use Rattle.cubemap.specs.declared.Rotation.{Rotation}
 use Rattle.cubemap.specs.Checks.{Check, check, first_failed, equal_checks, rotation_in_range, rotation_nonzero}
 use Rattle.cubemap.specs.Outcomes.{converted_means}
-use Rattle.checks.specs.Asking.{asked}
-use Rattle.checks.proofs.Chain.{Asking, start, next, all_answered, ended}
+use Rattle.checks.specs.Asking.{asked, asked_after}
+use Rattle.checks.proofs.Chain.{Asking, start, next-asked, all_answered, ended-refused}
 use Rattle.fold.proofs.ask_rotations.Goals as goal
 
 module _ (first second : Rotation) where
@@ -21,16 +21,18 @@ module _ (first second : Rotation) where
 
   -- behind the first question
   one : {b : Bool} {x : Returned Unit Refusal} → x ≡ asked b Refusal.RotationRange
-      → b ≡ (rotation_in_range first && rotation_in_range second) → Asking (in_range ∷ []) (nonzero ∷ []) x
-  one e t = subst (Asking (in_range ∷ []) (nonzero ∷ [])) (sym e)
-      (next Refusal.RotationRange (start (in_range ∷ nonzero ∷ []) tt) t refl)
+      → b ≡ (rotation_in_range first && rotation_in_range second)
+      → Asking (in_range ∷ []) (nonzero ∷ []) (converted_means x)
+  one e t = subst (λ x. Asking (in_range ∷ []) (nonzero ∷ []) (converted_means x)) (sym e)
+      (next-asked (Ok tt) Refusal.RotationRange (start (in_range ∷ nonzero ∷ []) tt) t refl)
 
   -- where it is "no", the call ends
   refused : {b : Bool} {x : Returned Unit Refusal} {q : Refusal} → x ≡ asked b Refusal.RotationRange
       → b ≡ (rotation_in_range first && rotation_in_range second) → x ≡ Err q
       → converted_means (Err q) ≡ first_failed (equal_checks first second)
   unfolding equal_checks
-  refused e t r = ended (subst (Asking (in_range ∷ []) (nonzero ∷ [])) r (one e t))
+  refused {q = q} e t r =
+      ended-refused q (subst (λ x. Asking (in_range ∷ []) (nonzero ∷ []) (converted_means x)) r (one e t))
 
   -- where it is "yes", the second one answers
   answered : {b d : Bool} {x y : Returned Unit Refusal} → x ≡ asked b Refusal.RotationRange
@@ -38,9 +40,9 @@ module _ (first second : Rotation) where
       → d ≡ (rotation_nonzero first && rotation_nonzero second)
       → converted_means y ≡ first_failed (equal_checks first second)
   unfolding equal_checks
-  answered e t r f u =
-      ap converted_means f
-      ∙ all_answered (next Refusal.RotationZero (subst (Asking (in_range ∷ []) (nonzero ∷ [])) r (one e t)) u refl)
+  answered {d = d} {x = x} e t r f u =
+      ap converted_means (f ∙ ap (λ x. asked_after x d Refusal.RotationZero) (sym r))
+      ∙ all_answered (next-asked x Refusal.RotationZero (one e t) u refl)
 
 pub returns-in_err-ask : goal.returns-in_err-ask
 returns-in_err-ask c =
